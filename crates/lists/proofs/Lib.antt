@@ -1,0 +1,2 @@
+pub mod Perm
+pub mod InPlace

@@ -1,0 +1,1 @@
+// Lists: what the definitions share, and laws for every crate above. No code.

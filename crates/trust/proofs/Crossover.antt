@@ -1,0 +1,235 @@
+-- A crossover child keeps every board and every panel: the donor's sheet rebuilt on its board, the other boards, the other panels unused.
+use Prim.Native.Nat.{ℕ}
+use mathlib.Core.Path.{_≡_, refl, sym, ap, _∙_, subst}
+use mathlib.Core.Logic.{_⊎_, inl, inr}
+use mathlib.Core.Bool.{Bool, true, false, not, _&&_, _||_}
+use mathlib.Core.List.{List, [], _∷_, _++_, map, append-nil, append-assoc, List·Memᴰ, List·Memᴰ·head, List·Memᴰ·tail, List·Memᴰ·cases-cons, List·Memᴰ·not-nil, Memᴰ·append-left}
+use mathlib.Core.Option.{Option, none, some, Option·some-injective, Option·none-ne-some}
+use lib.Dec.{T, T-not, not-T}
+use Rattle.lists.specs.Base.{if_then_else_, _>>=_, _<|>_, any, retain, find, enumerate, foldOption, removeAt, concatMap}
+use Rattle.model.specs.declared.BaselineGuillotineHeuristic.{BaselineGuillotineHeuristic}
+use Rattle.model.specs.declared.StockInstance.{StockInstance}
+use Rattle.model.specs.declared.CutInstance.{CutInstance}
+use Rattle.model.specs.declared.InstanceKey.{InstanceKey}
+use Rattle.model.specs.Types.{stockKey, cutKey, sameKey}
+use Rattle.model.specs.Sheet.{GuillotineSheet, Insertion, newSheet, tryInsert, rebuild, sheetKeys, makingOf}
+use Rattle.model.specs.Candidate.{Candidate, containsKey, cutsForKeys}
+use Rattle.model.specs.Expand.{ProblemInstance}
+use Rattle.model.specs.Search.{fullStock, crossoverChild}
+use Rattle.lists.proofs.Perm.{Perm, done, keep, flip, also, perm-refl, perm-sym, perm-append-left, All, Pairs, all-map, all-left, all-right, all-perm, pairs-perm, mem-perm, map-perm, removeAt-perm}
+use Rattle.trust.proofs.Placing.{At, enumerate-at}
+use Rattle.trust.proofs.Candidate.{cutsOf, placedCuts, boardsOf, inserted-cuts, Differ, Distinct, differ-sym, sameKey-refl, sameKey-eq, retain-all, Kept}
+use Rattle.trust.proofs.Sheet.{tryInsert-inserted}
+use Rattle.trust.proofs.Keys.{is-true, is-false, in-all, sheetKeys-cuts}
+use Rattle.trust.proofs.Compact.{all-self, bin-panels, bin-found}
+
+-- ---- lists
+
+retain-append : {A : Type 0} (p : A → Bool) (xs ys : List A) → retain p (xs ++ ys) ≡ retain p xs ++ retain p ys
+unfolding retain
+retain-append p [] ys = refl
+retain-append {A} p (x ∷ xs) ys = go (p x) (retain-append p xs ys)
+  where
+    go : (b : Bool) → retain p (xs ++ ys) ≡ retain p xs ++ retain p ys
+        → (if b then x ∷ retain p (xs ++ ys) else retain p (xs ++ ys)) ≡ (if b then x ∷ retain p xs else retain p xs) ++ retain p ys
+    go true e = ap {B = List A} (λ r. x ∷ r) e
+    go false e = e
+
+retain-none : {A : Type 0} (p : A → Bool) (xs : List A) → All (λ x. T (not (p x))) xs → retain p xs ≡ []
+unfolding retain
+retain-none p [] h = refl
+retain-none {A} p (x ∷ xs) h = rw (is-false (p x) (h .0)) (retain-none p xs (h .1))
+
+retain-perm : {A : Type 0} (p : A → Bool) {xs ys : List A} → Perm xs ys → Perm (retain p xs) (retain p ys)
+unfolding retain
+retain-perm p done = done
+retain-perm p (keep x {xs} {ys} q) = go (p x) (retain-perm p q)
+  where
+    go : (b : Bool) → Perm (retain p xs) (retain p ys) → Perm (if b then x ∷ retain p xs else retain p xs) (if b then x ∷ retain p ys else retain p ys)
+    go true r = keep x r
+    go false r = r
+retain-perm p (flip x y xs) = go (p x) (p y)
+  where
+    go : (a b : Bool) → Perm (if a then x ∷ (if b then y ∷ retain p xs else retain p xs) else (if b then y ∷ retain p xs else retain p xs))
+        (if b then y ∷ (if a then x ∷ retain p xs else retain p xs) else (if a then x ∷ retain p xs else retain p xs))
+    go true true = flip x y (retain p xs)
+    go true false = perm-refl (x ∷ retain p xs)
+    go false true = perm-refl (y ∷ retain p xs)
+    go false false = perm-refl (retain p xs)
+retain-perm p (also q r) = also (retain-perm p q) (retain-perm p r)
+
+-- every pair across two parts
+cross : {A : Type 0} (R : A → A → Type 0) (xs ys : List A) → Pairs R (xs ++ ys) → All (λ y. All (λ x. R x y) xs) ys
+cross R [] ys h = all-map _ _ (λ y k. tt) ys (all-self ys)
+cross R (x ∷ xs) ys h = together ys (all-right (R x) xs ys (h .0)) (cross R xs ys (h .1))
+  where
+    together : (zs : List _) → All (R x) zs → All (λ y. All (λ z. R z y) xs) zs → All (λ y. All (λ z. R z y) (x ∷ xs)) zs
+    together [] a b = tt
+    together (z ∷ zs) a b = ((a .0, b .0), together zs (a .1) (b .1))
+
+find-all : {A : Type 0} (Q : A → Type 0) (p : A → Bool) (xs : List A) (x : A) → All Q xs → find p xs ≡ some x → Q x × T (p x)
+unfolding find
+find-all Q p [] x h e = absurd (Option·none-ne-some x e)
+find-all {A} Q p (y ∷ ys) x h e = go (p y) refl e (find-all Q p ys x (h .1))
+  where
+    go : (b : Bool) → p y ≡ b → ((if b then some y else none) <|> find p ys) ≡ some x → (find p ys ≡ some x → Q x × T (p x)) → Q x × T (p x)
+    go true f k later =
+        let q = Option·some-injective y x k in
+        (subst Q q (h .0), subst (λ (z : A). T (p z)) q (subst T (sym f) tt))
+    go false f k later = later k
+
+-- ---- the panels that the donor's sheet does not have
+
+keys-in : (c : CutInstance) (cs : List CutInstance) → List·Memᴰ c cs → T (containsKey (cutKey c) (map cutKey cs))
+unfolding containsKey any
+keys-in c [] m = absurd (List·Memᴰ·not-nil m)
+keys-in c (x ∷ cs) m = go (List·Memᴰ·cases-cons m) (keys-in c cs)
+  where
+    or-right : (a b : Bool) → T b → T (a || b)
+    or-right true b t = tt
+    or-right false b t = t
+
+    go : (c ≡ x) ⊎ List·Memᴰ c cs → (List·Memᴰ c cs → T (any (sameKey (cutKey c)) (map cutKey cs))) → T (sameKey (cutKey c) (cutKey x) || any (sameKey (cutKey c)) (map cutKey cs))
+    go (inl e) later = rw (is-true (sameKey (cutKey c) (cutKey x)) (subst (λ (y : CutInstance). T (sameKey (cutKey c) (cutKey y))) e (sameKey-refl (cutKey c)))) tt
+    go (inr k) later = or-right (sameKey (cutKey c) (cutKey x)) _ (later k)
+
+keys-out : (c : CutInstance) (cs : List CutInstance) → All (Differ c) cs → T (not (containsKey (cutKey c) (map cutKey cs)))
+unfolding containsKey any
+keys-out c [] h = tt
+keys-out c (x ∷ cs) h = rw (is-false (sameKey (cutKey c) (cutKey x)) (h .0)) (keys-out c cs (h .1))
+
+pub others-unused : (cuts cs others : List CutInstance) → Distinct cuts → Perm (cs ++ others) cuts
+    → Perm (cs ++ retain (λ c. not (containsKey (cutKey c) (map cutKey cs))) cuts) cuts
+others-unused cuts cs others d p =
+    let q : CutInstance → Bool = λ c. not (containsKey (cutKey c) (map cutKey cs)) in
+    let apart : Distinct (cs ++ others) = pairs-perm Differ differ-sym (perm-sym p) d in
+    let gone : retain q cs ≡ [] = retain-none q cs (all-map (λ c. List·Memᴰ c cs) (λ c. T (not (q c))) (λ c m. twice (containsKey (cutKey c) (map cutKey cs)) (keys-in c cs m)) cs (all-self cs)) in
+    let stay : retain q others ≡ others =
+    retain-all q others (all-map (λ o. All (λ c. Differ c o) cs) (λ o. T (q o)) (λ o h. keys-out o cs (all-map (λ c. Differ c o) (Differ o) (λ c k. differ-sym c o k) cs h)) others (cross Differ cs others apart))
+    in
+    let left : Perm (retain q cuts) others = rw (retain-append q cs others, gone, stay) at (retain-perm q (perm-sym p)) in
+    also (perm-append-left cs left) p
+  where
+    twice : (b : Bool) → T b → T (not (not b))
+    twice true t = t
+    twice false t = t
+
+-- ---- the boards
+
+key-sym : (a b : InstanceKey) → T (sameKey a b) → T (sameKey b a)
+key-sym a b t = subst (λ (k : InstanceKey). T (sameKey k a)) (sameKey-eq a b t) (sameKey-refl a)
+
+abbrev pub DifferBoards : StockInstance → StockInstance → Type 0
+DifferBoards a b = T (not (sameKey (stockKey a) (stockKey b)))
+
+pub board-sym : (a b : StockInstance) → DifferBoards a b → DifferBoards b a
+board-sym a b h = not-T (sameKey (stockKey b) (stockKey a)) λ t. T-not (sameKey (stockKey a) (stockKey b)) h (key-sym (stockKey b) (stockKey a) t)
+
+-- two boards of one key are one board
+same-board : (stock : List StockInstance) (a b : StockInstance) → Pairs DifferBoards stock → List·Memᴰ a stock → List·Memᴰ b stock
+    → T (sameKey (stockKey a) (stockKey b)) → a ≡ b
+same-board [] a b d m n t = absurd (List·Memᴰ·not-nil m)
+same-board (x ∷ xs) a b d m n t = go (List·Memᴰ·cases-cons m) (List·Memᴰ·cases-cons n) (λ u v. same-board xs a b (d .1) u v t)
+  where
+    flipped : T (sameKey (stockKey b) (stockKey a))
+    flipped = key-sym (stockKey a) (stockKey b) t
+
+    go : (a ≡ x) ⊎ List·Memᴰ a xs → (b ≡ x) ⊎ List·Memᴰ b xs → (List·Memᴰ a xs → List·Memᴰ b xs → a ≡ b) → a ≡ b
+    go (inl e) (inl f) later = e ∙ sym f
+    go (inl e) (inr v) later = absurd (T-not (sameKey (stockKey x) (stockKey b)) (in-all (DifferBoards x) xs (d .0) v) (subst (λ (y : StockInstance). T (sameKey (stockKey y) (stockKey b))) e t))
+    go (inr u) (inl f) later = absurd (T-not (sameKey (stockKey x) (stockKey a)) (in-all (DifferBoards x) xs (d .0) u) (subst (λ (y : StockInstance). T (sameKey (stockKey y) (stockKey a))) f flipped))
+    go (inr u) (inr v) later = later u v
+
+-- ---- the donor's cuts on its board
+
+module _ (P : GuillotineSheet → Type 0) (inst : ProblemInstance) (row : BaselineGuillotineHeuristic) (distinct : Distinct (inst .cuts)) (boards : Pairs DifferBoards (inst .stock))
+    (fresh : All (λ s. P (newSheet s)) (inst .stock))
+    (keeps : (i : Insertion) (s t : GuillotineSheet) → List·Memᴰ (i .cut) (inst .cuts) → tryInsert (inst .kerfWidth) s i ≡ some t → P s → P t) where
+  abbrev insertions : List CutInstance → List Insertion
+  insertions cs = map (λ c. record { cut = c; heuristic = row }) cs
+
+  record Again (s : GuillotineSheet) (cs : List CutInstance) (t : GuillotineSheet) : Type 0 where
+    board : t .stock ≡ s .stock
+    cuts : cutsOf t ≡ cutsOf s ++ cs
+    sheet : P t
+
+  again : (s : GuillotineSheet) (cs : List CutInstance) (t : GuillotineSheet) → All (λ c. List·Memᴰ c (inst .cuts)) cs → P s
+      → foldOption (tryInsert (inst .kerfWidth)) s (insertions cs) ≡ some t → Again s cs t
+  unfolding foldOption
+  again s [] t m h e =
+      subst (Again s []) (Option·some-injective s t e) (record { board = refl; cuts = sym (append-nil (cutsOf s)); sheet = h })
+  again s (c ∷ cs) t m h e = go (tryInsert (inst .kerfWidth) s i) refl e (λ u. again u cs t (m .1))
+    where
+      i : Insertion
+      i = record { cut = c; heuristic = row }
+
+      go : (o : Option GuillotineSheet) → tryInsert (inst .kerfWidth) s i ≡ o → (o >>= λ u. foldOption (tryInsert (inst .kerfWidth)) u (insertions cs)) ≡ some t
+          → ((u : GuillotineSheet) → P u → foldOption (tryInsert (inst .kerfWidth)) u (insertions cs) ≡ some t → Again u cs t) → Again s (c ∷ cs) t
+      go none f k later = absurd (Option·none-ne-some t k)
+      go (some u) f k later =
+          let a = later u (keeps i s u (m .0) f h) k in
+          record {
+            board = a .board ∙ tryInsert-inserted (inst .kerfWidth) s i u f .sameStock;
+            cuts = a .cuts ∙ ap (λ (x : List CutInstance). x ++ cs) (inserted-cuts (inst .kerfWidth) s i u f) ∙ append-assoc (cutsOf s) (c ∷ []) cs;
+            sheet = a .sheet;
+          }
+
+  -- the child, for a donor that is a bin of a candidate which keeps all
+  pub child-kept : (left right : Candidate) (donor : GuillotineSheet) (rest : List GuillotineSheet) (child : Candidate) → Perm (right .bins) (donor ∷ rest)
+      → Kept P (inst .kerfWidth) (inst .stock) (inst .cuts) [] left → Kept P (inst .kerfWidth) (inst .stock) (inst .cuts) [] right
+      → crossoverChild inst row left donor ≡ some child → Kept P (inst .kerfWidth) (inst .stock) (inst .cuts) [] child
+  unfolding crossoverChild fullStock rebuild newSheet cutsOf makingOf concatMap
+  child-kept left right donor rest child p l r e =
+      go (rebuild (inst .kerfWidth) (donor .stock) (insertions cs)) refl found refl (rw (bin-found P (inst .kerfWidth) (inst .stock) (inst .cuts) distinct right donor rest p r) at e)
+    where
+      cs : List CutInstance
+      cs = cutsOf donor
+
+      panels : Perm (cs ++ (placedCuts rest ++ right .unusedCuts)) (inst .cuts)
+      panels = bin-panels P (inst .kerfWidth) (inst .stock) (inst .cuts) distinct right donor rest p r
+
+      donorIn : List·Memᴰ (donor .stock) (inst .stock)
+      donorIn = mem-perm (r .boards) (Memᴰ·append-left (right .availableStock) (mem-perm (map-perm (λ (b : GuillotineSheet). b .stock) (perm-sym p)) (List·Memᴰ·head refl)))
+
+      kept : (bin : GuillotineSheet) (w : ℕ × StockInstance) → rebuild (inst .kerfWidth) (donor .stock) (insertions (cutsOf donor)) ≡ some bin
+          → find (λ s. sameKey (stockKey (s .1)) (stockKey (donor .stock))) (enumerate (fullStock left)) ≡ some w
+          → Kept P (inst .kerfWidth) (inst .stock) (inst .cuts) [] (record {
+            bins = bin ∷ [];
+            availableStock = removeAt (w .0) (fullStock left);
+            unusedCuts = retain (λ c. not (containsKey (cutKey c) (sheetKeys donor))) (inst .cuts);
+          })
+      kept bin w f g =
+          let known : All (λ c. List·Memᴰ c (inst .cuts)) cs =
+          all-map (λ c. List·Memᴰ c cs) (λ c. List·Memᴰ c (inst .cuts)) (λ c m. mem-perm panels (Memᴰ·append-left _ m)) cs (all-self cs)
+          in
+          let a : Again (newSheet (donor .stock)) cs bin = again (newSheet (donor .stock)) cs bin known (in-all (λ s. P (newSheet s)) (inst .stock) fresh donorIn) f in
+          let t = find-all (At (donor .stock) (fullStock left)) (λ s. sameKey (stockKey (s .1)) (stockKey (donor .stock))) (enumerate (fullStock left)) w
+          (enumerate-at (donor .stock) (fullStock left)) g
+          in
+          let out : Perm (fullStock left) (w .1 ∷ removeAt (w .0) (fullStock left)) =
+          subst (λ (x : StockInstance). Perm (fullStock left) (x ∷ removeAt (w .0) (fullStock left))) (t .0 .1) (removeAt-perm (donor .stock) (fullStock left) (w .0) (t .0 .0))
+          in
+          let whole : Perm (fullStock left) (inst .stock) = l .boards in
+          let one : w .1 ≡ donor .stock = same-board (inst .stock) (w .1) (donor .stock) boards (mem-perm whole (mem-perm (perm-sym out) (List·Memᴰ·head refl))) donorIn (t .1) in
+          let own : cutsOf bin ≡ cs = a .cuts in
+          record {
+            boards =
+                subst (λ (x : StockInstance). Perm (x ∷ removeAt (w .0) (fullStock left)) (inst .stock)) (one ∙ sym (a .board)) (also (perm-sym out) whole);
+            panels =
+                rw (append-nil (cutsOf bin), own, append-nil (retain (λ c. not (containsKey (cutKey c) (sheetKeys donor))) (inst .cuts)), sheetKeys-cuts donor)
+                (others-unused (inst .cuts) cs (placedCuts rest ++ right .unusedCuts) distinct panels);
+            sheets = (a .sheet, tt);
+          }
+
+      found : Option (ℕ × StockInstance)
+      found = find (λ s. sameKey (stockKey (s .1)) (stockKey (donor .stock))) (enumerate (fullStock left))
+
+      go : (o : Option GuillotineSheet) → rebuild (inst .kerfWidth) (donor .stock) (insertions cs) ≡ o → (q : Option (ℕ × StockInstance)) → found ≡ q
+          → (o >>= λ bin. q >>= λ f. some (record {
+            bins = bin ∷ [];
+            availableStock = removeAt (f .0) (fullStock left);
+            unusedCuts = retain (λ c. not (containsKey (cutKey c) (sheetKeys donor))) (inst .cuts);
+          })) ≡ some child → Kept P (inst .kerfWidth) (inst .stock) (inst .cuts) [] child
+      go none f q g k = absurd (Option·none-ne-some child k)
+      go (some bin) f none g k = absurd (Option·none-ne-some child k)
+      go (some bin) f (some w) g k = subst (Kept P (inst .kerfWidth) (inst .stock) (inst .cuts) []) (Option·some-injective _ child k) (kept bin w f g)

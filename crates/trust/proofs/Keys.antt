@@ -1,0 +1,59 @@
+-- Cuts found by their keys, in a catalogue whose keys are distinct.
+use Prim.Native.Nat.{ℕ}
+use mathlib.Core.Path.{_≡_, refl, sym, ap, _∙_, subst}
+use mathlib.Core.Logic.{_⊎_, inl, inr}
+use mathlib.Core.Bool.{Bool, true, false, not, _||_}
+use mathlib.Core.List.{List, [], _∷_, _++_, map, List·Memᴰ, List·Memᴰ·cases-cons, List·Memᴰ·not-nil}
+use mathlib.Core.Option.{Option, none, some}
+use lib.Dec.{T, T-not}
+use Rattle.lists.specs.Base.{if_then_else_, _>>=_, _<|>_, any, retain, find, mapOption, concatMap}
+use Rattle.model.specs.declared.CutInstance.{CutInstance}
+use Rattle.model.specs.declared.InstanceKey.{InstanceKey}
+use Rattle.model.specs.Types.{cutKey, sameKey}
+use Rattle.model.specs.Sheet.{GuillotineSheet, PlacedPiece, sheetKeys, makingOf}
+use Rattle.model.specs.Candidate.{containsKey, cutForKey, cutsForKeys}
+use Rattle.lists.proofs.Perm.{Perm, done, keep, flip, also, perm-refl, perm-sym, perm-append-left, perm-middle, All, Pairs, all-map, all-left, all-right, pairs-perm}
+use Rattle.trust.proofs.Candidate.{cutsOf, Differ, Distinct, sameKey-refl, retain-all}
+
+-- a test that is known
+pub is-true : (b : Bool) → T b → b ≡ true
+is-true true t = refl
+is-true false t = absurd t
+
+pub is-false : (b : Bool) → T (not b) → b ≡ false
+is-false true t = absurd t
+is-false false t = refl
+
+pub in-all : {A : Type 0} (P : A → Type 0) {a : A} (xs : List A) → All P xs → List·Memᴰ a xs → P a
+in-all P [] h m = absurd (List·Memᴰ·not-nil m)
+in-all P {a} (x ∷ xs) h m = go (List·Memᴰ·cases-cons m) (λ k. in-all P xs (h .1) k)
+  where
+    go : (a ≡ x) ⊎ List·Memᴰ a xs → (List·Memᴰ a xs → P a) → P a
+    go (inl e) later = subst P (sym e) (h .0)
+    go (inr k) later = later k
+
+pub cutForKey-known : (catalog : List CutInstance) (c : CutInstance) → Distinct catalog → List·Memᴰ c catalog → cutForKey catalog (cutKey c) ≡ some c
+unfolding cutForKey find
+cutForKey-known [] c d m = absurd (List·Memᴰ·not-nil m)
+cutForKey-known (x ∷ xs) c d m = go (List·Memᴰ·cases-cons m) (cutForKey-known xs c (d .1))
+  where
+    go : (c ≡ x) ⊎ List·Memᴰ c xs → (List·Memᴰ c xs → find (λ y. sameKey (cutKey y) (cutKey c)) xs ≡ some c)
+        → ((if sameKey (cutKey x) (cutKey c) then some x else none) <|> find (λ y. sameKey (cutKey y) (cutKey c)) xs) ≡ some c
+    go (inl e) later =
+        rw (is-true (sameKey (cutKey x) (cutKey c)) (subst (λ (y : CutInstance). T (sameKey (cutKey y) (cutKey c))) e (sameKey-refl (cutKey c))))
+        (ap {B = Option CutInstance} some (sym e))
+    go (inr k) later = rw (is-false (sameKey (cutKey x) (cutKey c)) (in-all (Differ x) xs (d .0) k)) (later k)
+
+pub cutsForKeys-known : (catalog cs : List CutInstance) → Distinct catalog → All (λ c. List·Memᴰ c catalog) cs → cutsForKeys catalog (map cutKey cs) ≡ some cs
+unfolding cutsForKeys mapOption
+cutsForKeys-known catalog [] d h = refl
+cutsForKeys-known catalog (c ∷ cs) d h =
+    rw (cutForKey-known catalog c d (h .0)) (ap (λ (o : Option (List CutInstance)). o >>= λ ys. some (c ∷ ys)) (cutsForKeys-known catalog cs d (h .1)))
+
+pub sheetKeys-cuts : (s : GuillotineSheet) → sheetKeys s ≡ map cutKey (cutsOf s)
+unfolding sheetKeys cutsOf makingOf
+sheetKeys-cuts s = go (s .placedPieces)
+  where
+    go : (ps : List PlacedPiece) → map (λ (p : PlacedPiece). cutKey (p .by .cut)) ps ≡ map cutKey (map (λ i. i .cut) (map (λ (p : PlacedPiece). p .by) ps))
+    go [] = refl
+    go (p ∷ ps) = ap {B = List InstanceKey} (λ r. cutKey (p .by .cut) ∷ r) (go ps)
