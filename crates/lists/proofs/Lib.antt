@@ -1,2 +1,3 @@
 pub mod Perm
 pub mod InPlace
+pub mod Sorting

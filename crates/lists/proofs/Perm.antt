@@ -216,7 +216,7 @@ module _ {A : Type 0} where
   pick-perm true p q = p
   pick-perm false p q = q
 
-  insertBy-perm : (cmp : A → A → Ordering) (x : A) (xs : List A) → Perm (insertBy cmp x xs) (x ∷ xs)
+  pub insertBy-perm : (cmp : A → A → Ordering) (x : A) (xs : List A) → Perm (insertBy cmp x xs) (x ∷ xs)
   unfolding insertBy
   insertBy-perm cmp x [] = perm-refl (x ∷ [])
   insertBy-perm cmp x (y ∷ ys) = pick-perm (isGreater (cmp x y)) (also (keep y (insertBy-perm cmp x ys)) (flip y x ys)) (perm-refl (x ∷ y ∷ ys))

@@ -19,4 +19,6 @@ pub mod Account
 pub mod Answer
 pub mod Outcome
 pub mod Evaluate
-pub mod Cases
+pub mod FileOf
+pub mod Stars
+pub mod Plans

@@ -1,39 +1,14 @@
--- The ★ cases of document 01, proved together: `stars` says that the definition answers every file of the table as the table does.
-use Prim.Native.Nat.{ℕ, zero, suc, _+_, _*_, _/_, _%_}
+-- The ★ cases of document 01, proved together: the definition answers every file of the table as the table does.
+-- (Written by tools/write_tables.py; the answers are the Rust's.)
+use Prim.Native.Nat.{ℕ}
 use mathlib.Core.Path.{_≡_, refl}
-use mathlib.Core.List.{List, [], _∷_, _++_, map}
-use mathlib.Core.Option.{Option, none, some}
-use lib.ListN.{length}
-use Rattle.lists.specs.Base.{concatMap}
+use mathlib.Core.List.{List, [], _∷_, map}
 use Rattle.model.specs.Project.{projectOf}
 use Rattle.model.specs.Sheet.{newSheet}
 use Rattle.model.specs.Account.{accountFrom}
 use Rattle.model.specs.Answer.{Answer, plan, refused, answer, madeBy}
 use Rattle.model.specs.Evaluate.{evaluate}
-
--- ---- a project file from its numbers
-
-abbrev pub bytesOf : ℕ → ℕ → List ℕ
-bytesOf zero n = []
-bytesOf (suc k) n = n % 256 ∷ bytesOf k (n / 256)
-
--- id, width, length, quantity, pattern, finite or can_rotate
-abbrev pub Row : Type 0
-Row = ℕ × ℕ × ℕ × ℕ × ℕ × ℕ
-
-unfoldable pub rowBytes : Row → List ℕ
-rowBytes r =
-    bytesOf 8 (r .0) ++ bytesOf 4 (r .1) ++ bytesOf 4 (r .2) ++ bytesOf 4 (r .3) ++ bytesOf 1 (r .4) ++ bytesOf 1 (r .5) ++ bytesOf 2 0
-
--- kerf, layout, effort, stock, cuts
-unfoldable pub file : ℕ → ℕ → ℕ → List Row → List Row → List ℕ
-unfolding rowBytes
-file kerf layout effort stock cuts =
-    bytesOf 4 24 ++ bytesOf 4 8 ++ bytesOf 4 32 ++ bytesOf 4 (24 * length stock) ++ bytesOf 4 (32 + 24 * length stock) ++ bytesOf 4 (24 * length cuts)
-    ++ bytesOf 4 kerf ++ (layout ∷ effort ∷ 0 ∷ 0 ∷ [])
-    ++ concatMap rowBytes stock ++ concatMap rowBytes cuts
-
--- ---- the table
+use Rattle.model.specs.FileOf.{file}
 
 unfoldable pub cases : List (List ℕ × Answer)
 cases =
@@ -137,59 +112,3 @@ pub stars : (map (λ c. answer (c .0)) cases ≡ map (λ c. c .1) cases)
     × (accounts star4 ≡ (540, 76) ∷ [])
 unfolding evaluate cases file limits accounts star4
 stars = (refl, refl, refl)
-
--- ---- two Balanced projects, with the answers of the Rust
-
-unfoldable pub balanced : List (List ℕ × Answer)
-balanced =
-    -- Fast refuses this 17
-    (
-      file 0 0 1 ((1, 10, 9, 1, 0, 1) ∷ []) ((7, 2, 4, 1, 0, 0) ∷ (8, 8, 6, 1, 0, 1) ∷ (9, 8, 3, 1, 0, 1) ∷ []),
-      plan (1 ∷ 477218588 ∷ 1072460231 ∷ 0
-          ∷ 6 ∷ 97
-          ∷ 1 ∷ 0 ∷ 0 ∷ 10 ∷ 9 ∷ 888 ∷ 19 ∷ 3 ∷ 1 ∷ 7
-          ∷ 8 ∷ 0 ∷ 0 ∷ 0 ∷ 0 ∷ 8 ∷ 6 ∷ 0 ∷ 0
-          ∷ 9 ∷ 0 ∷ 0 ∷ 0 ∷ 6 ∷ 8 ∷ 3 ∷ 0 ∷ 0
-          ∷ 7 ∷ 0 ∷ 0 ∷ 8 ∷ 0 ∷ 2 ∷ 4 ∷ 0 ∷ 0
-          ∷ 8 ∷ 4 ∷ 2 ∷ 5
-          ∷ 0 ∷ 1 ∷ 8 ∷ 0 ∷ 0 ∷ 0 ∷ 10 ∷ 9
-          ∷ 0 ∷ 0 ∷ 6 ∷ 0 ∷ 0 ∷ 0 ∷ 8 ∷ 9
-          ∷ 1 ∷ 8 ∷ 0 ∷ 0 ∷ 0 ∷ 0 ∷ 8 ∷ 6
-          ∷ 1 ∷ 9 ∷ 0 ∷ 0 ∷ 0 ∷ 6 ∷ 8 ∷ 3
-          ∷ 0 ∷ 0 ∷ 4 ∷ 0 ∷ 8 ∷ 0 ∷ 2 ∷ 9
-          ∷ 1 ∷ 7 ∷ 0 ∷ 0 ∷ 8 ∷ 0 ∷ 2 ∷ 4
-          ∷ 2 ∷ 0 ∷ 0 ∷ 0 ∷ 8 ∷ 4 ∷ 2 ∷ 5 ∷ []),
-    )
-    -- the order of the sheets decides, by the last bit of the fitness
-    ∷ (
-      file 1 0 1 ((1, 9, 12, 2, 0, 1) ∷ []) ((7, 6, 8, 1, 0, 1) ∷ (8, 5, 2, 1, 0, 0) ∷ (9, 3, 5, 1, 0, 0) ∷ (10, 5, 8, 1, 0, 1) ∷ []),
-      plan (2 ∷ 795364315 ∷ 1071693217 ∷ 0
-          ∷ 8 ∷ 92
-          ∷ 100 ∷ 72
-          ∷ 1 ∷ 0 ∷ 0 ∷ 9 ∷ 12 ∷ 537 ∷ 20 ∷ 2 ∷ 2 ∷ 7
-          ∷ 7 ∷ 0 ∷ 0 ∷ 0 ∷ 0 ∷ 6 ∷ 8 ∷ 0 ∷ 0
-          ∷ 8 ∷ 0 ∷ 0 ∷ 0 ∷ 9 ∷ 5 ∷ 2 ∷ 0 ∷ 0
-          ∷ 7 ∷ 0 ∷ 2 ∷ 8
-          ∷ 6 ∷ 9 ∷ 3 ∷ 3
-          ∷ 0 ∷ 0 ∷ 8 ∷ 1 ∷ 0 ∷ 0 ∷ 9 ∷ 12
-          ∷ 0 ∷ 1 ∷ 6 ∷ 1 ∷ 0 ∷ 0 ∷ 9 ∷ 8
-          ∷ 1 ∷ 7 ∷ 0 ∷ 0 ∷ 0 ∷ 0 ∷ 6 ∷ 8
-          ∷ 2 ∷ 0 ∷ 0 ∷ 0 ∷ 7 ∷ 0 ∷ 2 ∷ 8
-          ∷ 0 ∷ 1 ∷ 5 ∷ 1 ∷ 0 ∷ 9 ∷ 9 ∷ 3
-          ∷ 1 ∷ 8 ∷ 0 ∷ 0 ∷ 0 ∷ 9 ∷ 5 ∷ 2
-          ∷ 2 ∷ 0 ∷ 0 ∷ 0 ∷ 6 ∷ 9 ∷ 3 ∷ 3
-          ∷ 1 ∷ 0 ∷ 1 ∷ 9 ∷ 12 ∷ 509 ∷ 14 ∷ 2 ∷ 1 ∷ 5
-          ∷ 10 ∷ 0 ∷ 0 ∷ 0 ∷ 0 ∷ 8 ∷ 5 ∷ 0 ∷ 1
-          ∷ 9 ∷ 0 ∷ 0 ∷ 0 ∷ 6 ∷ 3 ∷ 5 ∷ 0 ∷ 0
-          ∷ 4 ∷ 6 ∷ 5 ∷ 5
-          ∷ 0 ∷ 0 ∷ 5 ∷ 1 ∷ 0 ∷ 0 ∷ 9 ∷ 12
-          ∷ 1 ∷ 10 ∷ 0 ∷ 0 ∷ 0 ∷ 0 ∷ 8 ∷ 5
-          ∷ 0 ∷ 1 ∷ 3 ∷ 1 ∷ 0 ∷ 6 ∷ 9 ∷ 5
-          ∷ 1 ∷ 9 ∷ 0 ∷ 0 ∷ 0 ∷ 6 ∷ 3 ∷ 5
-          ∷ 2 ∷ 0 ∷ 0 ∷ 0 ∷ 4 ∷ 6 ∷ 5 ∷ 5 ∷ []),
-    )
-    ∷ []
-
-pub balanced-answers : map (λ c. answer (c .0)) balanced ≡ map (λ c. c .1) balanced
-unfolding evaluate balanced file
-balanced-answers = refl
