@@ -21,4 +21,5 @@ pub mod Packing
 pub mod Prefilter
 pub mod Sizes
 pub mod Choice
+pub mod Chosen
 pub mod Population
