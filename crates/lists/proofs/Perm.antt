@@ -5,7 +5,7 @@ use native.Mathlib.Nat.{le-of-suc-le-suc, not-suc-le-zero, add-assoc, add-comm, 
 use mathlib.Core.Bool.{Bool, true, false}
 use mathlib.Core.Path.{_≡_, refl, sym, ap, _∙_, subst}
 use mathlib.Core.Logic.{_⊎_, inl, inr}
-use mathlib.Core.List.{List, [], _∷_, _++_, map, append-nil, append-assoc, List·Memᴰ, List·Memᴰ·head, List·Memᴰ·tail, List·Memᴰ·cases-cons, nil≢cons, cons≢nil, head-eq-of-cons-eq, tail-eq-of-cons-eq}
+use mathlib.Core.List.{List, [], _∷_, _++_, map, append-nil, append-assoc, List·Memᴰ, List·Memᴰ·head, List·Memᴰ·tail, List·Memᴰ·cases-cons, List·Memᴰ·not-nil, nil≢cons, cons≢nil, head-eq-of-cons-eq, tail-eq-of-cons-eq}
 use lib.ListN.{length, getD, set}
 use Rattle.lists.specs.Base.{if_then_else_, isGreater, sum, concatMap, lastOr, dropLast, removeAt, swapRemove, swap, insertBy, sortBy}
 
@@ -243,6 +243,22 @@ module _ {A : Type 0} where
 
   pub swapRemove-out : (d : A) (xs : List A) (i : ℕ) → i < length xs → Perm xs (getD xs i d ∷ swapRemove d i xs)
   swapRemove-out d xs i h = also (removeAt-perm d xs i h) (keep (getD xs i d) (perm-sym (swapRemove-perm d xs i h)))
+
+-- ---- members
+
+-- what all have, each has
+pub in-all : {A : Type 0} (P : A → Type 0) {a : A} (xs : List A) → All P xs → List·Memᴰ a xs → P a
+in-all P [] h m = absurd (List·Memᴰ·not-nil m)
+in-all P {a} (x ∷ xs) h m = go (List·Memᴰ·cases-cons m) (λ k. in-all P xs (h .1) k)
+  where
+    go : (a ≡ x) ⊎ List·Memᴰ a xs → (List·Memᴰ a xs → P a) → P a
+    go (inl e) later = subst P (sym e) (h .0)
+    go (inr k) later = later k
+
+-- each element of a list is in it
+pub all-self : {A : Type 0} (xs : List A) → All (λ x. List·Memᴰ x xs) xs
+all-self [] = tt
+all-self (x ∷ xs) = (List·Memᴰ·head refl, all-map (λ y. List·Memᴰ y xs) (λ y. List·Memᴰ y (x ∷ xs)) (λ y m. List·Memᴰ·tail m) xs (all-self xs))
 
 module _ {A B : Type 0} where
   pub map-perm : (f : A → B) {xs ys : List A} → Perm xs ys → Perm (map f xs) (map f ys)

@@ -31,6 +31,7 @@ instanceOf bytes = expandProject (projectOf bytes)
 -- a plan with sheets: its words, its makings, and what holds of its candidate
 pub record FromWinner (rows : List BaselineGuillotineHeuristic) (bytes words : List ℕ) : Type 0 where
   pub candidate : Candidate
+  pub chosen : winner rows (instanceOf bytes) (searchNumbers (effortOf (projectOf bytes .effort))) ≡ some candidate
   pub won : Won (SheetOk (instanceOf bytes .kerfWidth)) (instanceOf bytes) candidate
   pub asWords : words ≡ planWords LayoutKind.Guillotine (Option·getD (fitness (candidate .bins)) positiveZero) (candidate .bins)
   pub made : makings rows bytes ≡ map (λ b. (b .stock, makingOf b)) (candidate .bins)
@@ -43,11 +44,11 @@ is-plan : Answer → Type 0
 is-plan (plan ws) = Unit {0}
 is-plan (refused k) = ⊥
 
-not-refused : (k : ℕ) (ws : List ℕ) → refused k ≡ plan ws → ⊥
+pub not-refused : (k : ℕ) (ws : List ℕ) → refused k ≡ plan ws → ⊥
 unfolding is-plan
 not-refused k ws e = subst is-plan (sym e) tt
 
-same-words : (vs ws : List ℕ) → plan vs ≡ plan ws → vs ≡ ws
+pub same-words : (vs ws : List ℕ) → plan vs ≡ plan ws → vs ≡ ws
 unfolding words-of
 same-words vs ws e = ap words-of e
 
@@ -68,6 +69,7 @@ plan-from-winner rows bytes words e = checks (fileRefusal bytes) refl e
     made c f w k =
         record {
           candidate = c;
+          chosen = w;
           won = winner-ok rows inst (admitted bytes f) n c w;
           asWords = sym (same-words _ words k);
           made = rw (w, makings);

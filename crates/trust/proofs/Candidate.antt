@@ -125,12 +125,12 @@ retain-all {A} p (x ∷ xs) h = go (p x) (h .0) (retain-all p xs (h .1))
     go true t e = ap {B = List A} (λ r. x ∷ r) e
     go false t e = absurd t
 
-concatMap-append : {A B : Type 0} (f : A → List B) (xs ys : List A) → concatMap f (xs ++ ys) ≡ concatMap f xs ++ concatMap f ys
+pub concatMap-append : {A B : Type 0} (f : A → List B) (xs ys : List A) → concatMap f (xs ++ ys) ≡ concatMap f xs ++ concatMap f ys
 unfolding concatMap
 concatMap-append f [] ys = refl
 concatMap-append f (x ∷ xs) ys = ap (λ r. f x ++ r) (concatMap-append f xs ys) ∙ sym (append-assoc (f x) (concatMap f xs) (concatMap f ys))
 
-map-append : {A B : Type 0} (f : A → B) (xs ys : List A) → map f (xs ++ ys) ≡ map f xs ++ map f ys
+pub map-append : {A B : Type 0} (f : A → B) (xs ys : List A) → map f (xs ++ ys) ≡ map f xs ++ map f ys
 map-append f [] ys = refl
 map-append {B} f (x ∷ xs) ys = ap {B = List B} (λ r. f x ∷ r) (map-append f xs ys)
 

@@ -26,7 +26,7 @@ use Rattle.trust.proofs.Winner.{Admitted}
 -- ---- no refusal
 
 -- a row whose condition does not hold
-abbrev Passed : Check → Type 0
+abbrev pub Passed : Check → Type 0
 Passed c = c .1 ≡ false
 
 neither : {A : Type 0} (o q : Option A) → (o <|> q) ≡ none → (o ≡ none) × (q ≡ none)
@@ -44,18 +44,18 @@ none-applies (c ∷ cs) e =
     go true k = absurd (Option·some-ne-none (c .0) k)
     go false k = refl
 
-or-false-split : (a b : Bool) → (a || b) ≡ false → (a ≡ false) × (b ≡ false)
+pub or-false-split : (a b : Bool) → (a || b) ≡ false → (a ≡ false) × (b ≡ false)
 or-false-split true b e = absurd (true≢false e)
 or-false-split false b e = (refl, e)
 
 -- what a rule finds of a record that it does not refuse
-abbrev Rule : RecordRule → (Piece → Type 0) → Type 0
+abbrev pub Rule : RecordRule → (Piece → Type 0) → Type 0
 Rule rule Q = (seen : List ℕ) (count : ℕ) (p : Piece) → All Passed (rule seen count p) → Q p × (any (eqb (p .id)) seen ≡ false)
 
-abbrev OtherId : Piece → Piece → Type 0
+abbrev pub OtherId : Piece → Piece → Type 0
 OtherId p q = eqb (q .id) (p .id) ≡ false
 
-records : (rule : RecordRule) (Q : Piece → Type 0) → Rule rule Q → (seen : List ℕ) (count : ℕ) (ps : List Piece) → All Passed (recordChecks rule seen count ps)
+pub records : (rule : RecordRule) (Q : Piece → Type 0) → Rule rule Q → (seen : List ℕ) (count : ℕ) (ps : List Piece) → All Passed (recordChecks rule seen count ps)
     → All Q ps × All (λ p. any (eqb (p .id)) seen ≡ false) ps × Pairs OtherId ps
 unfolding recordChecks any
 records rule Q f seen count [] e = (tt, tt, tt)
@@ -73,7 +73,7 @@ records rule Q f seen count (p ∷ ps) e =
 abbrev Sides : Piece → Type 0
 Sides p = (0 < p .width) × (0 < p .length)
 
-nonzero : (n : ℕ) → eqb n 0 ≡ false → 0 < n
+pub nonzero : (n : ℕ) → eqb n 0 ≡ false → 0 < n
 nonzero zero e = absurd (true≢false e)
 nonzero (suc n) e = omega arith
 
@@ -116,7 +116,7 @@ pairs-map : {A B : Type 0} (R : A → A → Type 0) (S : B → B → Type 0) (f 
 pairs-map R S f g [] h = tt
 pairs-map R S f g (x ∷ xs) h = (map-all (R x) (S (f x)) f (λ y k. g x y k) xs (h .0), pairs-map R S f g xs (h .1))
 
-all-map-any : {A B : Type 0} (P : B → Type 0) (f : A → B) → ((x : A) → P (f x)) → (xs : List A) → All P (map f xs)
+pub all-map-any : {A B : Type 0} (P : B → Type 0) (f : A → B) → ((x : A) → P (f x)) → (xs : List A) → All P (map f xs)
 all-map-any P f g [] = tt
 all-map-any P f g (x ∷ xs) = (g x, all-map-any P f g xs)
 
@@ -169,15 +169,33 @@ cut-sides : (p : Piece) → Sides p → All PanelSides (cutInstances p)
 unfolding cutInstances
 cut-sides p h = all-map-any PanelSides _ (λ n. h) (range (p .quantity))
 
-project-admitted : (p : Project) → All Passed (projectChecks p) → Admitted (expandProject p)
-unfolding projectChecks expandProject
-project-admitted p h =
+-- the parts of the table
+pub record Rows (p : Project) : Type 0 where
+  pub settings : All Passed (settingsChecks p)
+  pub stock : All Passed (recordChecks stockRule [] 0 (p .stock))
+  pub cuts : All Passed (recordChecks cutRule [] 0 (p .cuts))
+  pub whole : All Passed (wholeChecks p)
+
+pub rows : (p : Project) → All Passed (projectChecks p) → Rows p
+unfolding projectChecks
+rows p h =
     let stock = recordChecks stockRule [] 0 (p .stock) in
     let cuts = recordChecks cutRule [] 0 (p .cuts) in
     let h₁ = all-right Passed (settingsChecks p) (stock ++ (cuts ++ wholeChecks p)) h in
     let h₂ = all-right Passed stock (cuts ++ wholeChecks p) h₁ in
-    let s = records stockRule Sides stock-rule [] 0 (p .stock) (all-left Passed stock (cuts ++ wholeChecks p) h₁) in
-    let c = records cutRule Sides cut-rule [] 0 (p .cuts) (all-left Passed cuts (wholeChecks p) h₂) in
+    record {
+      settings = all-left Passed (settingsChecks p) (stock ++ (cuts ++ wholeChecks p)) h;
+      stock = all-left Passed stock (cuts ++ wholeChecks p) h₁;
+      cuts = all-left Passed cuts (wholeChecks p) h₂;
+      whole = all-right Passed cuts (wholeChecks p) h₂;
+    }
+
+project-admitted : (p : Project) → All Passed (projectChecks p) → Admitted (expandProject p)
+unfolding expandProject
+project-admitted p h =
+    let r = rows p h in
+    let s = records stockRule Sides stock-rule [] 0 (p .stock) (r .stock) in
+    let c = records cutRule Sides cut-rule [] 0 (p .cuts) (r .cuts) in
     let sorted = perm-sym (sortBy-perm compareStock (concatMap stockInstances (p .stock))) in
     record {
       boards = all-perm BoardSides sorted (concatMap-all Sides BoardSides stockInstances stock-sides (p .stock) (s .0));

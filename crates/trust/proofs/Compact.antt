@@ -13,15 +13,10 @@ use Rattle.model.specs.declared.InstanceKey.{InstanceKey}
 use Rattle.model.specs.Types.{cutKey}
 use Rattle.model.specs.Sheet.{GuillotineSheet, Insertion, newSheet, tryInsert, sheetKeys}
 use Rattle.model.specs.Candidate.{Candidate, cutsForKeys, worstBin, compacted, compactWorstBin}
-use Rattle.lists.proofs.Perm.{Perm, keep, flip, also, perm-refl, perm-sym, perm-append-left, perm-append-right, perm-append-comm, perm-middle, All, all-map, all-perm, mem-perm, map-perm, concatMap-perm, removeAt-perm}
+use Rattle.lists.proofs.Perm.{Perm, keep, flip, also, perm-refl, perm-sym, perm-append-left, perm-append-right, perm-append-comm, perm-middle, All, all-map, all-perm, mem-perm, map-perm, concatMap-perm, removeAt-perm, all-self}
 use Rattle.trust.proofs.Placing.{At, enumerate-at, firstBest-all}
 use Rattle.trust.proofs.Candidate.{cutsOf, placedCuts, boardsOf, Distinct, Kept}
 use Rattle.trust.proofs.Keys.{cutsForKeys-known, sheetKeys-cuts}
-
--- each element of a list is in it
-pub all-self : {A : Type 0} (xs : List A) → All (λ x. List·Memᴰ x xs) xs
-all-self [] = tt
-all-self (x ∷ xs) = (List·Memᴰ·head refl, all-map (λ y. List·Memᴰ y xs) (λ y. List·Memᴰ y (x ∷ xs)) (λ y m. List·Memᴰ·tail m) xs (all-self xs))
 
 module _ (P : GuillotineSheet → Type 0) (kerf : ℕ) (stock : List StockInstance) (cuts : List CutInstance) (distinct : Distinct cuts) where
   -- the cuts of a bin are panels of the instance, and are found by their keys

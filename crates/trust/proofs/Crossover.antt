@@ -16,16 +16,16 @@ use Rattle.model.specs.Sheet.{GuillotineSheet, Insertion, newSheet, tryInsert, 
 use Rattle.model.specs.Candidate.{Candidate, containsKey, cutsForKeys}
 use Rattle.model.specs.Expand.{ProblemInstance}
 use Rattle.model.specs.Search.{fullStock, crossoverChild}
-use Rattle.lists.proofs.Perm.{Perm, done, keep, flip, also, perm-refl, perm-sym, perm-append-left, All, Pairs, all-map, all-left, all-right, all-perm, pairs-perm, mem-perm, map-perm, removeAt-perm}
+use Rattle.lists.proofs.Perm.{Perm, done, keep, flip, also, perm-refl, perm-sym, perm-append-left, All, Pairs, all-map, all-left, all-right, all-perm, pairs-perm, mem-perm, map-perm, removeAt-perm, in-all, all-self}
 use Rattle.trust.proofs.Placing.{At, enumerate-at}
 use Rattle.trust.proofs.Candidate.{cutsOf, placedCuts, boardsOf, inserted-cuts, Differ, Distinct, differ-sym, sameKey-refl, sameKey-eq, retain-all, Kept}
 use Rattle.trust.proofs.Sheet.{tryInsert-inserted}
-use Rattle.trust.proofs.Keys.{is-true, is-false, in-all, sheetKeys-cuts}
-use Rattle.trust.proofs.Compact.{all-self, bin-panels, bin-found}
+use Rattle.trust.proofs.Keys.{is-true, is-false, sheetKeys-cuts}
+use Rattle.trust.proofs.Compact.{bin-panels, bin-found}
 
 -- ---- lists
 
-retain-append : {A : Type 0} (p : A → Bool) (xs ys : List A) → retain p (xs ++ ys) ≡ retain p xs ++ retain p ys
+pub retain-append : {A : Type 0} (p : A → Bool) (xs ys : List A) → retain p (xs ++ ys) ≡ retain p xs ++ retain p ys
 unfolding retain
 retain-append p [] ys = refl
 retain-append {A} p (x ∷ xs) ys = go (p x) (retain-append p xs ys)
@@ -35,12 +35,12 @@ retain-append {A} p (x ∷ xs) ys = go (p x) (retain-append p xs ys)
     go true e = ap {B = List A} (λ r. x ∷ r) e
     go false e = e
 
-retain-none : {A : Type 0} (p : A → Bool) (xs : List A) → All (λ x. T (not (p x))) xs → retain p xs ≡ []
+pub retain-none : {A : Type 0} (p : A → Bool) (xs : List A) → All (λ x. T (not (p x))) xs → retain p xs ≡ []
 unfolding retain
 retain-none p [] h = refl
 retain-none {A} p (x ∷ xs) h = rw (is-false (p x) (h .0)) (retain-none p xs (h .1))
 
-retain-perm : {A : Type 0} (p : A → Bool) {xs ys : List A} → Perm xs ys → Perm (retain p xs) (retain p ys)
+pub retain-perm : {A : Type 0} (p : A → Bool) {xs ys : List A} → Perm xs ys → Perm (retain p xs) (retain p ys)
 unfolding retain
 retain-perm p done = done
 retain-perm p (keep x {xs} {ys} q) = go (p x) (retain-perm p q)
@@ -93,7 +93,7 @@ keys-in c (x ∷ cs) m = go (List·Memᴰ·cases-cons m) (keys-in c cs)
     go (inl e) later = rw (is-true (sameKey (cutKey c) (cutKey x)) (subst (λ (y : CutInstance). T (sameKey (cutKey c) (cutKey y))) e (sameKey-refl (cutKey c)))) tt
     go (inr k) later = or-right (sameKey (cutKey c) (cutKey x)) _ (later k)
 
-keys-out : (c : CutInstance) (cs : List CutInstance) → All (Differ c) cs → T (not (containsKey (cutKey c) (map cutKey cs)))
+pub keys-out : (c : CutInstance) (cs : List CutInstance) → All (Differ c) cs → T (not (containsKey (cutKey c) (map cutKey cs)))
 unfolding containsKey any
 keys-out c [] h = tt
 keys-out c (x ∷ cs) h = rw (is-false (sameKey (cutKey c) (cutKey x)) (h .0)) (keys-out c cs (h .1))
@@ -116,7 +116,7 @@ others-unused cuts cs others d p =
 
 -- ---- the boards
 
-key-sym : (a b : InstanceKey) → T (sameKey a b) → T (sameKey b a)
+pub key-sym : (a b : InstanceKey) → T (sameKey a b) → T (sameKey b a)
 key-sym a b t = subst (λ (k : InstanceKey). T (sameKey k a)) (sameKey-eq a b t) (sameKey-refl a)
 
 abbrev pub DifferBoards : StockInstance → StockInstance → Type 0
@@ -126,7 +126,7 @@ pub board-sym : (a b : StockInstance) → DifferBoards a b → DifferBoards b a
 board-sym a b h = not-T (sameKey (stockKey b) (stockKey a)) λ t. T-not (sameKey (stockKey a) (stockKey b)) h (key-sym (stockKey b) (stockKey a) t)
 
 -- two boards of one key are one board
-same-board : (stock : List StockInstance) (a b : StockInstance) → Pairs DifferBoards stock → List·Memᴰ a stock → List·Memᴰ b stock
+pub same-board : (stock : List StockInstance) (a b : StockInstance) → Pairs DifferBoards stock → List·Memᴰ a stock → List·Memᴰ b stock
     → T (sameKey (stockKey a) (stockKey b)) → a ≡ b
 same-board [] a b d m n t = absurd (List·Memᴰ·not-nil m)
 same-board (x ∷ xs) a b d m n t = go (List·Memᴰ·cases-cons m) (List·Memᴰ·cases-cons n) (λ u v. same-board xs a b (d .1) u v t)

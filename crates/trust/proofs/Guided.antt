@@ -15,6 +15,7 @@ use Rattle.model.specs.Merge.{Pair, firstPair, mergesAny, mergeFreeRects, merge
 use Rattle.model.specs.Guide.{SliceNode, leaf, free, insertSubtree, replaceFreeLeaf}
 use Rattle.model.specs.Sheet.{GuillotineSheet, PlacedPiece, Insertion, Place, newSheet, bestPlace, splitRects, splitTree, insertAt, tryInsert, rebuild}
 use Rattle.lists.proofs.Perm.{Perm, keep, also, perm-refl, perm-sym, perm-append-left, perm-append-right, perm-append-comm, perm-cancel, mem-perm, swapRemove-out, All}
+use Rattle.trust.specs.GuideRules.{mergedFrom}
 use Rattle.trust.proofs.Geometry.{Positive}
 use Rattle.trust.proofs.Placing.{Good, bestPlace-good}
 use Rattle.trust.proofs.Sheet.{lies-positive}
@@ -130,15 +131,6 @@ module _ (kerf : ℕ) (s : GuillotineSheet) (i : Insertion) (p : Place) (w : 0 <
             waste = subst (λ (x : List Rect). Perm (freeLeaves (t .tree′)) x) (sym (free-after f)) (t .waste);
             pieces = subst (λ (x : List PlacedPiece). Perm (pieceLeaves (t .tree′)) (pieceEntries x)) (sym pieces-after) (t .pieces);
           })
-
--- one of the insertions of a making merged
-unfoldable pub mergedFrom : ℕ → GuillotineSheet → List Insertion → Bool
-mergedFrom kerf s [] = false
-mergedFrom kerf s (i ∷ rest) =
-    elim (bestPlace s i) [
-      | none ↦ mergedFrom kerf s rest
-      | some p ↦ mergesAny kerf (splitRects kerf s i p) || mergedFrom kerf (insertAt kerf s i p) rest
-    ]
 
 pub making-guide : (kerf : ℕ) (s t : GuillotineSheet) (making : List Insertion) → All (λ i. (0 < i .cut .width) × (0 < i .cut .length)) making
     → foldOption (tryInsert kerf) s making ≡ some t → (b : Bool) → GuideState s b → GuideState t (b || mergedFrom kerf s making)

@@ -12,7 +12,7 @@ use Rattle.model.specs.declared.InstanceKey.{InstanceKey}
 use Rattle.model.specs.Types.{cutKey, sameKey}
 use Rattle.model.specs.Sheet.{GuillotineSheet, PlacedPiece, sheetKeys, makingOf}
 use Rattle.model.specs.Candidate.{containsKey, cutForKey, cutsForKeys}
-use Rattle.lists.proofs.Perm.{Perm, done, keep, flip, also, perm-refl, perm-sym, perm-append-left, perm-middle, All, Pairs, all-map, all-left, all-right, pairs-perm}
+use Rattle.lists.proofs.Perm.{Perm, done, keep, flip, also, perm-refl, perm-sym, perm-append-left, perm-middle, All, Pairs, all-map, all-left, all-right, pairs-perm, in-all}
 use Rattle.trust.proofs.Candidate.{cutsOf, Differ, Distinct, sameKey-refl, retain-all}
 
 -- a test that is known
@@ -23,14 +23,6 @@ is-true false t = absurd t
 pub is-false : (b : Bool) → T (not b) → b ≡ false
 is-false true t = absurd t
 is-false false t = refl
-
-pub in-all : {A : Type 0} (P : A → Type 0) {a : A} (xs : List A) → All P xs → List·Memᴰ a xs → P a
-in-all P [] h m = absurd (List·Memᴰ·not-nil m)
-in-all P {a} (x ∷ xs) h m = go (List·Memᴰ·cases-cons m) (λ k. in-all P xs (h .1) k)
-  where
-    go : (a ≡ x) ⊎ List·Memᴰ a xs → (List·Memᴰ a xs → P a) → P a
-    go (inl e) later = subst P (sym e) (h .0)
-    go (inr k) later = later k
 
 pub cutForKey-known : (catalog : List CutInstance) (c : CutInstance) → Distinct catalog → List·Memᴰ c catalog → cutForKey catalog (cutKey c) ≡ some c
 unfolding cutForKey find

@@ -32,7 +32,7 @@ pub record Fits (cut : CutInstance) (stock : PatternDirection) (free : Rect) (f 
   pub lies : Lies cut f
   pub grain : T (patternMatches (f .pattern) stock)
 
-and-split : (p q : Bool) → T (p && q) → T p × T q
+pub and-split : (p q : Bool) → T (p && q) → T p × T q
 and-split true q h = (tt, h)
 and-split false q h = absurd h
 
@@ -44,7 +44,7 @@ sides m a b c d t =
     (v .0, leb→le a b (v .1), leb→le c d (u .1))
 
 -- one element or none
-all-if : {A : Type 0} (P : A → Type 0) (b : Bool) (x : A) → (T b → P x) → All P (if b then x ∷ [] else [])
+pub all-if : {A : Type 0} (P : A → Type 0) (b : Bool) (x : A) → (T b → P x) → All P (if b then x ∷ [] else [])
 all-if P true x h = (h tt, tt)
 all-if P false x h = tt
 

@@ -21,11 +21,10 @@ use Rattle.model.specs.Sheet.{PlacedPiece, Insertion}
 use Rattle.model.specs.Expand.{ProblemInstance}
 use Rattle.model.specs.Refusal.{firstThatApplies}
 use Rattle.model.specs.Answer.{prefilter}
-use Rattle.lists.proofs.Perm.{Perm, All, Pairs, all-map, all-both, all-append, all-left, all-perm, mem-perm, sum-perm}
+use Rattle.lists.proofs.Perm.{Perm, All, Pairs, all-map, all-both, all-append, all-left, all-perm, mem-perm, sum-perm, all-self}
 use Rattle.trust.proofs.Geometry.{Apart, Within}
 use Rattle.trust.proofs.Placing.{Lies, upright, turned, concatMap-all, map-all}
 use Rattle.trust.proofs.Sheet.{pieceRects}
-use Rattle.trust.proofs.Compact.{all-self}
 use Rattle.trust.proofs.Keys.{is-true}
 use Rattle.trust.proofs.Choice.{lies-area}
 use Rattle.trust.proofs.Packing.{packed-area}
@@ -87,17 +86,17 @@ enough-area inst sheets o =
 
 -- ---- 15: a piece that lies on a board fits it
 
-and-intro : (p q : Bool) → T p → T q → T (p && q)
+pub and-intro : (p q : Bool) → T p → T q → T (p && q)
 and-intro true q t u = u
 and-intro false q t u = t
 
-fits-upright : (c : CutInstance) (s : StockInstance) → T (patternMatches (c .pattern) (s .pattern)) → c .width ≤ s .width → c .length ≤ s .length → T (uprightTest c (s .pattern) (stockRect s))
+pub fits-upright : (c : CutInstance) (s : StockInstance) → T (patternMatches (c .pattern) (s .pattern)) → c .width ≤ s .width → c .length ≤ s .length → T (uprightTest c (s .pattern) (stockRect s))
 unfolding uprightTest
 fits-upright c s m w l =
     and-intro (patternMatches (c .pattern) (s .pattern) && leb (c .width) (s .width)) (leb (c .length) (s .length))
     (and-intro (patternMatches (c .pattern) (s .pattern)) (leb (c .width) (s .width)) m (le→leb (c .width) (s .width) w)) (le→leb (c .length) (s .length) l)
 
-fits-turned : (c : CutInstance) (s : StockInstance) → T (c .«can_rotate») → T (turningMatters c) → T (patternMatches (rotatePattern (c .pattern)) (s .pattern))
+pub fits-turned : (c : CutInstance) (s : StockInstance) → T (c .«can_rotate») → T (turningMatters c) → T (patternMatches (rotatePattern (c .pattern)) (s .pattern))
     → c .length ≤ s .width → c .width ≤ s .length → T (rotatedTest c (s .pattern) (stockRect s))
 unfolding rotatedTest
 fits-turned c s t u m l w =
@@ -131,11 +130,11 @@ one-fits c s true b e f t = rw e tt
 one-fits c s false true e f t = rw (e, f) tt
 one-fits c s false false e f t = absurd t
 
-or-left : (a b : Bool) → T a → T (a || b)
+pub or-left : (a b : Bool) → T a → T (a || b)
 or-left true b t = tt
 or-left false b t = absurd t
 
-or-right : (a b : Bool) → T b → T (a || b)
+pub or-right : (a b : Bool) → T b → T (a || b)
 or-right true b t = tt
 or-right false b t = t
 
@@ -167,7 +166,7 @@ piece-fits s p g w = go (g .lies)
             let u = unturned c e in
             by-upright (fits-upright c s (matches-code (rotatePattern (c .pattern)) (c .pattern) (s .pattern) (u .code) k) (omega (arith, u .sides)) (omega (arith, u .sides)))
 
-any-mem : {A : Type 0} (p : A → Bool) {a : A} (xs : List A) → List·Memᴰ a xs → T (p a) → T (any p xs)
+pub any-mem : {A : Type 0} (p : A → Bool) {a : A} (xs : List A) → List·Memᴰ a xs → T (p a) → T (any p xs)
 unfolding any
 any-mem p [] m t = absurd (List·Memᴰ·not-nil m)
 any-mem {A} p {a} (x ∷ xs) m t = go (List·Memᴰ·cases-cons m) (λ k. any-mem p xs k t)

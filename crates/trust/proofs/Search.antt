@@ -20,12 +20,12 @@ use Rattle.model.specs.Sheet.{GuillotineSheet, Insertion, newSheet, tryInsert, 
 use Rattle.model.specs.Candidate.{Candidate, newCandidate, containsKey, cutsForKeys, placeCuts, reinsertUnusedFirstFit, compactWorstBin, hasDuplicateKeys, placedCutKeys, isValid}
 use Rattle.model.specs.Expand.{ProblemInstance, compareCut, sortedCutOrder, shuffleFrom, shuffleCutOrder}
 use Rattle.model.specs.Search.{SearchNumbers, Seed, defaultHeuristic, otherHeuristics, sortedSeed, variantSeeds, shuffledSeed, initialSeeds, candidateFromSeed, initialPopulation, bestDonorBin, fullStock, crossoverChild, childOf, children, crossoverPopulation, repairPopulation, compactPopulation, survivalGeneration, generation, runGenerations, selectBestValid, winner}
-use Rattle.lists.proofs.Perm.{Perm, done, keep, flip, also, perm-refl, perm-sym, perm-append-left, perm-append-right, perm-middle, All, Pairs, all-map, all-append, all-left, all-right, all-perm, pairs-perm, mem-perm, length-perm, map-perm, removeAt-perm, swap-perm, sortBy-perm, MapOf, perm-map-inv}
+use Rattle.lists.proofs.Perm.{Perm, done, keep, flip, also, perm-refl, perm-sym, perm-append-left, perm-append-right, perm-middle, All, Pairs, all-map, all-append, all-left, all-right, all-perm, pairs-perm, mem-perm, length-perm, map-perm, removeAt-perm, swap-perm, sortBy-perm, MapOf, perm-map-inv, all-self}
 use Rattle.trust.proofs.Placing.{At, enumerate-at, firstBest-all, concatMap-all, map-all}
 use Rattle.trust.proofs.Candidate.{cutsOf, placedCuts, boardsOf, inserted-cuts, Differ, Distinct, differ-sym, retain-all, Kept, places-kept, reinsert-kept}
 use Rattle.trust.proofs.Sheet.{tryInsert-inserted}
 use Rattle.trust.proofs.Keys.{cutsForKeys-known}
-use Rattle.trust.proofs.Compact.{all-self, compact-kept}
+use Rattle.trust.proofs.Compact.{compact-kept}
 use Rattle.trust.proofs.Crossover.{DifferBoards, child-kept}
 
 -- ---- orders of the cuts
@@ -77,12 +77,12 @@ retain-sub {A} P p (x ∷ xs) h = go (p x) refl (retain-sub P p xs (h .1))
     go true e k = ((h .0, subst T (sym e) tt), k)
     go false e k = k
 
-all-take : {A : Type 0} (P : A → Type 0) (n : ℕ) (xs : List A) → All P xs → All P (take n xs)
+pub all-take : {A : Type 0} (P : A → Type 0) (n : ℕ) (xs : List A) → All P xs → All P (take n xs)
 all-take P zero xs h = tt
 all-take P (suc n) [] h = tt
 all-take P (suc n) (x ∷ xs) h = (h .0, all-take P n xs (h .1))
 
-all-any : {A : Type 0} (xs : List A) → All (λ x. Unit {0}) xs
+pub all-any : {A : Type 0} (xs : List A) → All (λ x. Unit {0}) xs
 all-any [] = tt
 all-any (x ∷ xs) = (tt, all-any xs)
 
@@ -98,11 +98,11 @@ all-first (x ∷ xs) = (
   all-map (FirstOf xs) (FirstOf (x ∷ xs)) (λ y f. record { rest = x ∷ f .rest; first = also (keep x (f .first)) (flip x y (f .rest)) }) xs (all-first xs),
 )
 
-empty-nil : {A : Type 0} (xs : List A) → T (isEmpty xs) → xs ≡ []
+pub empty-nil : {A : Type 0} (xs : List A) → T (isEmpty xs) → xs ≡ []
 empty-nil [] t = refl
 empty-nil (x ∷ xs) t = absurd t
 
-first-of-three : (a b c : Bool) → T (a && b && c) → T a
+pub first-of-three : (a b c : Bool) → T (a && b && c) → T a
 first-of-three true b c t = tt
 first-of-three false b c t = t
 
@@ -150,12 +150,12 @@ module _ (P : GuillotineSheet → Type 0) (rows : List BaselineGuillotineHeurist
         (map-all (λ k. Unit {0}) InOrder (shuffledSeed (inst .cuts) row n) (λ k u. shuffled-perm (inst .cuts) (wrap (n .firstSeed + k))) (range (n .shuffles)) (all-any (range (n .shuffles)))),
   )
 
-  initial-good : (n : SearchNumbers) → All Good (initialPopulation rows inst n)
+  pub initial-good : (n : SearchNumbers) → All Good (initialPopulation rows inst n)
   unfolding initialPopulation
   initial-good n = concatMap-all InOrder Good _ seed-good (initialSeeds rows (inst .cuts) n) (seeds-ordered n)
 
   -- a generation
-  child-good : (left right : Candidate) → Good left → Good right → All Good (toList (childOf inst row left right))
+  pub child-good : (left right : Candidate) → Good left → Good right → All Good (toList (childOf inst row left right))
   unfolding childOf bestDonorBin
   child-good left right l r = go (bestDonorBin right) refl
     where

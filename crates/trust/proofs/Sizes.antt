@@ -28,7 +28,7 @@ one-or-none : {A : Type 0} (b : Bool) (x : A) → length (if b then x ∷ [] els
 one-or-none true x = le-refl 1
 one-or-none false x = omega arith
 
-split-length : (d : Direction) (kerf : ℕ) (f p : Rect) → length (splitFreeRect d kerf f p) ≤ 2
+pub split-length : (d : Direction) (kerf : ℕ) (f p : Rect) → length (splitFreeRect d kerf f p) ≤ 2
 unfolding splitFreeRect bottomRemainder rightRemainder
 split-length d kerf f p =
     omega (
@@ -38,7 +38,7 @@ split-length d kerf f p =
       one-or-none (ltb kerf (f .width - p .width)) (rect (f .x + p .width + kerf) (f .y) (f .width - p .width - kerf) (rightLength d f p)),
     )
 
-merge-length : (kerf n : ℕ) (rs : List Rect) → length (mergeRounds n kerf rs) ≤ length rs
+pub merge-length : (kerf n : ℕ) (rs : List Rect) → length (mergeRounds n kerf rs) ≤ length rs
 unfolding mergeRounds
 merge-length kerf zero rs = le-refl _
 merge-length kerf (suc n) rs = go (firstPair kerf rs) refl (merge-length kerf n)
@@ -76,7 +76,7 @@ cut-nodes : (c : GuideCut) (a b : SliceNode) → nodes (cut c a b) ≡ suc (node
 unfolding preorder
 cut-nodes c a b = ap suc (length-append (preorder a) (preorder b))
 
-replace-nodes : (tree : SliceNode) (target : Rect) (sub t : SliceNode) → replaceFreeLeaf tree target sub ≡ some t → nodes t + 1 ≡ nodes tree + nodes sub
+pub replace-nodes : (tree : SliceNode) (target : Rect) (sub t : SliceNode) → replaceFreeLeaf tree target sub ≡ some t → nodes t + 1 ≡ nodes tree + nodes sub
 unfolding replaceFreeLeaf
 replace-nodes (cut c a b) target sub t e =
     go (replaceFreeLeaf a target sub) (λ n. replace-nodes a target sub n) (replaceFreeLeaf b target sub) (λ n. replace-nodes b target sub n) e
@@ -112,7 +112,7 @@ two-cuts : (o : Option SliceNode) (f : SliceNode → Option SliceNode) (m : ℕ)
 two-cuts none f m t g h e = absurd (Option·none-ne-some t e)
 two-cuts (some n) f m t g h e = omega (arith, g n refl, h n t e)
 
-subtree-nodes : (d : Direction) (kerf : ℕ) (f p : Rect) (c : CutInstance) (t : SliceNode) → insertSubtree d kerf f p c ≡ some t → nodes t ≤ 5
+pub subtree-nodes : (d : Direction) (kerf : ℕ) (f p : Rect) (c : CutInstance) (t : SliceNode) → insertSubtree d kerf f p c ≡ some t → nodes t ≤ 5
 unfolding insertSubtree
 subtree-nodes Direction.Horizontal kerf f p c t e =
     let piece = leaf p (cutPiece (cutKey c)) in

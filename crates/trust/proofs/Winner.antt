@@ -15,12 +15,11 @@ use Rattle.model.specs.Sheet.{GuillotineSheet, PlacedPiece, Insertion, Place, n
 use Rattle.model.specs.Candidate.{Candidate}
 use Rattle.model.specs.Expand.{ProblemInstance}
 use Rattle.model.specs.Search.{SearchNumbers, winner}
-use Rattle.lists.proofs.Perm.{All, Pairs, all-append, all-map}
+use Rattle.lists.proofs.Perm.{All, Pairs, all-append, all-map, in-all}
 use Rattle.trust.proofs.Placing.{Lies, Good, bestPlace-good}
 use Rattle.trust.proofs.Sheet.{Sound, new-sound, insert-sound, tryInsert-sound, Rebuilt, new-rebuilt, tryInsert-rebuilt}
 use Rattle.trust.proofs.Parts.{PartsOk, new-parts, insert-parts}
 use Rattle.trust.proofs.Candidate.{Distinct}
-use Rattle.trust.proofs.Keys.{in-all}
 use Rattle.trust.proofs.Crossover.{DifferBoards}
 use Rattle.trust.proofs.Search.{Won, winner-won}
 
@@ -39,7 +38,7 @@ pub new-ok : (kerf : ℕ) (stock : StockInstance) → 0 < stock .width → 0 < s
 unfolding newSheet
 new-ok kerf stock w l = record { layout = new-sound kerf stock w l; rebuilt = new-rebuilt kerf stock; legal = tt; parts = new-parts kerf stock }
 
-tryInsert-legal : (kerf : ℕ) (s : GuillotineSheet) (i : Insertion) (t : GuillotineSheet) → tryInsert kerf s i ≡ some t
+pub tryInsert-legal : (kerf : ℕ) (s : GuillotineSheet) (i : Insertion) (t : GuillotineSheet) → tryInsert kerf s i ≡ some t
     → All (Legal (s .stock .pattern)) (s .placedPieces) → All (Legal (t .stock .pattern)) (t .placedPieces)
 unfolding tryInsert insertAt
 tryInsert-legal kerf s i t e h = go (bestPlace s i) refl e
@@ -52,7 +51,7 @@ tryInsert-legal kerf s i t e h = go (bestPlace s i) refl e
     go (some p) f k =
         subst (λ (u : GuillotineSheet). All (Legal (u .stock .pattern)) (u .placedPieces)) (Option·some-injective _ _ k) (at p (bestPlace-good s i p f))
 
-tryInsert-parts : (kerf : ℕ) (s : GuillotineSheet) (i : Insertion) (t : GuillotineSheet) → 0 < i .cut .width → 0 < i .cut .length
+pub tryInsert-parts : (kerf : ℕ) (s : GuillotineSheet) (i : Insertion) (t : GuillotineSheet) → 0 < i .cut .width → 0 < i .cut .length
     → tryInsert kerf s i ≡ some t → PartsOk kerf s → PartsOk kerf t
 unfolding tryInsert
 tryInsert-parts kerf s i t w l e h = go (bestPlace s i) refl e

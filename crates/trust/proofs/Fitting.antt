@@ -1,0 +1,119 @@
+-- A piece of a sheet that insertions made is one of its panel's fits for the bare board.
+use Prim.Native.Nat.{ℕ}
+use native.Mathlib.Omega.{arith}
+use mathlib.Core.Path.{_≡_, refl, sym, ap, subst}
+use mathlib.Core.Bool.{_&&_}
+use mathlib.Core.List.{List, [], _∷_, List·Memᴰ, List·Memᴰ·head, Memᴰ·append-right}
+use mathlib.Core.Option.{Option, none, some, Option·some-injective, Option·none-ne-some}
+use lib.Dec.{T, eqb}
+use borrow.Author.Tests.{eq-eqb}
+use Rattle.lists.specs.Base.{_>>=_, enumerate, foldOption}
+use Rattle.model.specs.declared.Rect.{Rect}
+use Rattle.model.specs.declared.PatternDirection.{PatternDirection}
+use Rattle.model.specs.declared.RotationPreference.{RotationPreference}
+use Rattle.model.specs.declared.StockInstance.{StockInstance}
+use Rattle.model.specs.declared.CutInstance.{CutInstance}
+use Rattle.model.specs.declared.FitResult.{FitResult}
+use Rattle.model.specs.Types.{stockRect, patternCode, flagCode}
+use Rattle.model.specs.Fit.{patternMatches, uprightTest, uprightResult, turningMatters, rotatedTest, rotatedResult, uprightFit, rotatedFit, fitCutInRects}
+use Rattle.model.specs.Sheet.{GuillotineSheet, PlacedPiece, Insertion, Place, newSheet, places, bestPlace, insertAt, tryInsert, rebuild}
+use Rattle.lists.proofs.Perm.{All, all-append}
+use Rattle.trust.specs.PieceRules.{liesAs, isFit}
+use Rattle.trust.proofs.Geometry.{Within}
+use Rattle.trust.proofs.Placing.{Lies, upright, turned, and-split, all-if, firstBest-all, concatMap-all, map-all}
+use Rattle.trust.proofs.Winner.{Legal}
+use Rattle.trust.proofs.Search.{all-any}
+use Rattle.trust.proofs.Keys.{is-true}
+use Rattle.trust.proofs.Prefilter.{and-intro, any-mem, fits-upright, fits-turned}
+use Rattle.trust.proofs.Truth.{of-true}
+use Rattle.trust.proofs.RoundTrip.{pieceView}
+
+-- ---- a piece is turned only where turning matters
+
+abbrev pub Matters : CutInstance → FitResult → Type 0
+Matters cut f = T (f .rotated) → T (turningMatters cut)
+
+module _ (cut : CutInstance) (stock : PatternDirection) (free : Rect) where
+  upright-matters : All (Matters cut) (uprightFit cut stock free)
+  unfolding uprightFit
+  upright-matters = all-if (Matters cut) (uprightTest cut stock free) (uprightResult cut free) (λ t k. absurd k)
+
+  turned-matters : All (Matters cut) (rotatedFit cut stock free)
+  unfolding rotatedFit rotatedTest
+  turned-matters = all-if (Matters cut) (rotatedTest cut stock free) (rotatedResult cut free) λ t k.
+      let m = and-split (cut .«can_rotate» && turningMatters cut) _ t in
+      and-split (cut .«can_rotate») (turningMatters cut) (m .0) .1
+
+  fits-matter : (r : RotationPreference) → All (Matters cut) (fitCutInRects cut stock free r)
+  unfolding fitCutInRects
+  fits-matter RotationPreference.PreferUpright = all-append _ (uprightFit cut stock free) (rotatedFit cut stock free) upright-matters turned-matters
+  fits-matter RotationPreference.PreferRotated = all-append _ (rotatedFit cut stock free) (uprightFit cut stock free) turned-matters upright-matters
+
+place-matters : (sheet : GuillotineSheet) (i : Insertion) (p : Place) → bestPlace sheet i ≡ some p → Matters (i .cut) (p .fit)
+unfolding bestPlace places
+place-matters sheet i p e =
+    firstBest-all (λ q. Matters (i .cut) (q .fit)) _ (places sheet i) p
+    (concatMap-all (λ x. Unit {0}) (λ q. Matters (i .cut) (q .fit)) _
+    (λ x u. map-all (Matters (i .cut)) (λ q. Matters (i .cut) (q .fit)) _ (λ f h. h)
+    (fitCutInRects (i .cut) (sheet .stock .pattern) (x .1) (i .heuristic .rotation)) (fits-matter (i .cut) (sheet .stock .pattern) (x .1) (i .heuristic .rotation)))
+    (enumerate (sheet .freeRects)) (all-any (enumerate (sheet .freeRects)))) e
+
+-- what every place gives its piece, every piece of a sheet has that insertions made
+abbrev pub PieceMatters : PlacedPiece → Type 0
+PieceMatters p = Matters (p .by .cut) (p .fit)
+
+making-matters : (kerf : ℕ) (s t : GuillotineSheet) (making : List Insertion) → foldOption (tryInsert kerf) s making ≡ some t
+    → All PieceMatters (s .placedPieces) → All PieceMatters (t .placedPieces)
+unfolding foldOption tryInsert insertAt
+making-matters kerf s t [] e h = subst (λ (u : GuillotineSheet). All PieceMatters (u .placedPieces)) (Option·some-injective s t e) h
+making-matters kerf s t (i ∷ making) e h = go (bestPlace s i) refl e (λ u. making-matters kerf u t making)
+  where
+    go : (o : Option Place) → bestPlace s i ≡ o → ((o >>= λ p. some (insertAt kerf s i p)) >>= λ u. foldOption (tryInsert kerf) u making) ≡ some t
+        → ((u : GuillotineSheet) → foldOption (tryInsert kerf) u making ≡ some t → All PieceMatters (u .placedPieces) → All PieceMatters (t .placedPieces))
+        → All PieceMatters (t .placedPieces)
+    go none f k later = absurd (Option·none-ne-some t k)
+    go (some p) f k later = later (insertAt kerf s i p) k (all-append PieceMatters (s .placedPieces) _ h (place-matters s i p f, tt))
+
+pub rebuilt-matters : (kerf : ℕ) (stock : StockInstance) (making : List Insertion) (t : GuillotineSheet) → rebuild kerf stock making ≡ some t → All PieceMatters (t .placedPieces)
+unfolding rebuild newSheet
+rebuilt-matters kerf stock making t e = making-matters kerf (newSheet stock) t making e tt
+
+-- ---- the fit of a piece that lies in the board
+
+-- equal in size, pattern and turned mark
+lies-as : (p : PlacedPiece) (f : FitResult) → p .fit .rect .width ≡ f .rect .width → p .fit .rect .length ≡ f .rect .length → p .fit .pattern ≡ f .pattern → p .fit .rotated ≡ f .rotated
+    → T (liesAs (pieceView p) f)
+unfolding liesAs pieceView
+lies-as p f w l g r =
+    let same : (a b : ℕ) → a ≡ b → T (eqb a b) = λ a b e. of-true (eq-eqb a b e) in
+    let tw = eqb (p .fit .rect .width) (f .rect .width) in
+    let tl = eqb (p .fit .rect .length) (f .rect .length) in
+    let tp = eqb (patternCode (p .fit .pattern)) (patternCode (f .pattern)) in
+    and-intro (tw && tl && tp) _ (and-intro (tw && tl) tp (and-intro tw tl (same _ _ w) (same _ _ l)) (same _ _ (ap patternCode g))) (same _ _ (ap flagCode r))
+
+upright-there : (c : CutInstance) (b : StockInstance) → T (uprightTest c (b .pattern) (stockRect b))
+    → List·Memᴰ (uprightResult c (stockRect b)) (fitCutInRects c (b .pattern) (stockRect b) RotationPreference.PreferUpright)
+unfolding fitCutInRects uprightFit
+upright-there c b t = rw (is-true (uprightTest c (b .pattern) (stockRect b)) t) (List·Memᴰ·head refl)
+
+turned-there : (c : CutInstance) (b : StockInstance) → T (rotatedTest c (b .pattern) (stockRect b))
+    → List·Memᴰ (rotatedResult c (stockRect b)) (fitCutInRects c (b .pattern) (stockRect b) RotationPreference.PreferUpright)
+unfolding fitCutInRects rotatedFit
+turned-there c b t = rw (is-true (rotatedTest c (b .pattern) (stockRect b)) t) (Memᴰ·append-right (uprightFit c (b .pattern) (stockRect b)) (List·Memᴰ·head refl))
+
+pub piece-is-fit : (b : StockInstance) (p : PlacedPiece) → Legal (b .pattern) p → PieceMatters p → Within (stockRect b) (p .fit .rect) → T (isFit (pieceView p) b (p .by .cut))
+unfolding isFit
+piece-is-fit b p g m w = go (g .lies)
+  where
+    c : CutInstance
+    c = p .by .cut
+
+    go : Lies c (p .fit) → T (isFit (pieceView p) b c)
+    go (upright x y q r) =
+        any-mem (liesAs (pieceView p)) _
+        (upright-there c b (fits-upright c b (subst (λ (z : PatternDirection). T (patternMatches z (b .pattern))) q (g .grain)) (omega arith) (omega arith)))
+        (lies-as p (uprightResult c (stockRect b)) x y q r)
+    go (turned t x y q r) =
+        any-mem (liesAs (pieceView p)) _
+        (turned-there c b (fits-turned c b t (m (subst T (sym r) tt)) (subst (λ (z : PatternDirection). T (patternMatches z (b .pattern))) q (g .grain)) (omega arith) (omega arith)))
+        (lies-as p (rotatedResult c (stockRect b)) x y q r)

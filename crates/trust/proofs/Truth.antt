@@ -1,0 +1,58 @@
+-- Tests that are passed, over lists: from what holds of each element to what the test of the whole says, and back.
+use mathlib.Core.Path.{_≡_, sym, subst}
+use mathlib.Core.Bool.{Bool, true}
+use mathlib.Core.List.{List, [], _∷_, _++_, map}
+use lib.Dec.{T}
+use Rattle.lists.specs.Base.{all}
+use Rattle.lists.proofs.Perm.{All, Pairs, all-map, all-left}
+use Rattle.trust.specs.PieceRules.{pairwise}
+use Rattle.trust.proofs.Placing.{and-split}
+use Rattle.trust.proofs.Prefilter.{and-intro}
+
+pub of-true : {b : Bool} → b ≡ true → T b
+of-true e = subst T (sym e) tt
+
+pub pairs-left : {A : Type 0} (R : A → A → Type 0) (xs ys : List A) → Pairs R (xs ++ ys) → Pairs R xs
+pairs-left R [] ys h = tt
+pairs-left R (x ∷ xs) ys h = (all-left (R x) xs ys (h .0), pairs-left R xs ys (h .1))
+
+pub pairs-each : {A : Type 0} (R S : A → A → Type 0) → ((x y : A) → R x y → S x y) → (xs : List A) → Pairs R xs → Pairs S xs
+pairs-each R S f [] h = tt
+pairs-each R S f (x ∷ xs) h = (all-map (R x) (S x) (f x) xs (h .0), pairs-each R S f xs (h .1))
+
+pub all-of-map : {A B : Type 0} (P : B → Type 0) (f : A → B) (xs : List A) → All P (map f xs) → All (λ x. P (f x)) xs
+all-of-map P f [] h = tt
+all-of-map P f (x ∷ xs) h = (h .0, all-of-map P f xs (h .1))
+
+module _ {A : Type 0} (p : A → Bool) where
+  pub all-passed : (xs : List A) → All (λ x. T (p x)) xs → T (all p xs)
+  unfolding all
+  all-passed [] h = tt
+  all-passed (x ∷ xs) h = and-intro (p x) (all p xs) (h .0) (all-passed xs (h .1))
+
+  pub all-of : (xs : List A) → T (all p xs) → All (λ x. T (p x)) xs
+  unfolding all
+  all-of [] h = tt
+  all-of (x ∷ xs) h =
+      let s = and-split (p x) (all p xs) h in
+      (s .0, all-of xs (s .1))
+
+-- a test that whatever f gives passes
+pub map-pass : {A B : Type 0} (p : B → Bool) (f : A → B) → ((x : A) → T (p (f x))) → (xs : List A) → T (all p (map f xs))
+unfolding all
+map-pass p f h [] = tt
+map-pass p f h (x ∷ xs) = and-intro (p (f x)) (all p (map f xs)) (h x) (map-pass p f h xs)
+
+-- two by two
+module _ {A : Type 0} (p : A → A → Bool) where
+  pub pairs-passed : (xs : List A) → Pairs (λ x y. T (p x y)) xs → T (pairwise p xs)
+  unfolding pairwise
+  pairs-passed [] h = tt
+  pairs-passed (x ∷ xs) h = and-intro (all (p x) xs) (pairwise p xs) (all-passed (p x) xs (h .0)) (pairs-passed xs (h .1))
+
+  pub pairs-of : (xs : List A) → T (pairwise p xs) → Pairs (λ x y. T (p x y)) xs
+  unfolding pairwise
+  pairs-of [] h = tt
+  pairs-of (x ∷ xs) h =
+      let s = and-split (all (p x) xs) (pairwise p xs) h in
+      (all-of (p x) xs (s .0), pairs-of xs (s .1))
