@@ -1,0 +1,2 @@
+-- The definitions that the contracts of the generator cite.
+pub mod Shuffle

@@ -1,0 +1,2 @@
+-- The definitions that the contracts of the project file cite.
+pub mod Records
