@@ -1,0 +1,6 @@
+pub mod Product
+pub mod Order
+pub mod Shares
+pub mod Sheets
+pub mod Round
+pub mod Bounds

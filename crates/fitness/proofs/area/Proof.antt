@@ -1,0 +1,14 @@
+-- A product of two u32 fits a u64.
+use borrow.Author.Needs.{needs}
+use Rattle.fitness.proofs.Product.{below}
+use Rattle.fitness.proofs.area.Statement.{statement}
+use Rattle.fitness.proofs.area.Tie as tie
+
+mul-result : tie.Need-mul-result
+mul-result c = record { fits = below 32 (search needs) (search needs) }
+
+returns : tie.Need-returns
+returns c = search needs
+
+pub area-spec : {M : Type 1} → statement M
+area-spec = tie.close (tie.spec mul-result returns)

@@ -1,0 +1,4 @@
+pub mod Product
+pub mod Tests
+pub mod Order
+pub mod Orientations

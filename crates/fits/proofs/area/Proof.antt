@@ -1,0 +1,14 @@
+-- `fits::area` meets its contract: a product of two u32 fits u64.
+use borrow.Author.Needs.{needs}
+use Rattle.fits.proofs.Product.{below}
+use Rattle.fits.proofs.area.Statement.{statement}
+use Rattle.fits.proofs.area.Tie as tie
+
+mul-result : tie.Need-mul-result
+mul-result c = record { fits = below 32 (search needs) (search needs) }
+
+returns : tie.Need-returns
+returns c = search needs
+
+pub area-spec : {M : Type 1} → statement M
+area-spec = tie.close (tie.spec mul-result returns)

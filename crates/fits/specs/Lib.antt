@@ -1,0 +1,3 @@
+pub mod FitList
+pub mod Orientation
+pub mod Numbers

@@ -1,0 +1,3 @@
+pub mod FreeList
+pub mod Bounds
+pub mod Merging

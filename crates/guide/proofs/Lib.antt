@@ -1,0 +1,12 @@
+pub mod Lists
+pub mod Tests
+pub mod Trees
+pub mod Cuts
+pub mod Subtrees
+pub mod Searches
+pub mod Splices
+pub mod Guides
+pub mod Saws
+pub mod Sheets
+pub mod Unique
+pub mod SawBounds

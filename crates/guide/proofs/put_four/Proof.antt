@@ -1,0 +1,64 @@
+-- Four stores side by side are one part.
+use native.Mathlib.Omega.{arith}
+use borrow.Author.Needs.{needs}
+use lib.ListN.{length-set}
+use Rattle.guide.proofs.Lists.{stores}
+use Rattle.guide.proofs.put_four.Statement.{statement}
+use Rattle.guide.proofs.put_four.Tie as tie
+
+mul-words : tie.Need-mul-words
+mul-words c = search needs
+
+slice-write-words : tie.Need-slice-write-words
+slice-write-words c = search needs
+
+add-words : tie.Need-add-words
+add-words c = search needs
+
+mul-words-2 : tie.Need-mul-words-2
+mul-words-2 c = search needs
+
+slice-write-words-2 : tie.Need-slice-write-words-2
+slice-write-words-2 c = simp length-set (omega arith)
+
+add-words-2 : tie.Need-add-words-2
+add-words-2 c = search needs
+
+mul-words-3 : tie.Need-mul-words-3
+mul-words-3 c = search needs
+
+slice-write-words-3 : tie.Need-slice-write-words-3
+slice-write-words-3 c = simp length-set (omega arith)
+
+add-words-3 : tie.Need-add-words-3
+add-words-3 c = search needs
+
+mul-words-4 : tie.Need-mul-words-4
+mul-words-4 c = search needs
+
+slice-write-words-4 : tie.Need-slice-write-words-4
+slice-write-words-4 c = simp length-set (omega arith)
+
+same-length : tie.Need-same-length
+same-length c = search needs
+
+returns : tie.Need-returns
+returns c = stores (c .args .words .now) (c .args .at) (c .args .a) (c .args .b) (c .args .c) (c .args .d) (c .pre)
+
+pub put-four-spec : {M : Type 1} → statement M
+put-four-spec =
+    tie.close
+    (tie.spec
+    mul-words
+    slice-write-words
+    add-words
+    mul-words-2
+    slice-write-words-2
+    add-words-2
+    mul-words-3
+    slice-write-words-3
+    add-words-3
+    mul-words-4
+    slice-write-words-4
+    same-length
+    returns)

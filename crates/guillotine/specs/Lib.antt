@@ -1,0 +1,3 @@
+pub mod SheetWords
+pub mod Places
+pub mod Insertions
