@@ -1,0 +1,4 @@
+-- The definitions that the contracts of a candidate cite.
+pub mod Entries
+pub mod Moves
+pub mod Stands

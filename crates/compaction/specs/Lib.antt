@@ -1,0 +1,2 @@
+-- The definitions that the contracts of compaction cite.
+pub mod Compact

@@ -1,0 +1,2 @@
+-- The definitions that the contracts of crossover cite.
+pub mod Children

@@ -1,0 +1,2 @@
+-- The definitions that the contracts of a donor's sheet cite.
+pub mod Donated

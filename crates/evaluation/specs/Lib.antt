@@ -1,0 +1,3 @@
+-- The definitions that the contracts of a candidate's evaluation cite.
+pub mod OnSheets
+pub mod Keys

@@ -1,0 +1,2 @@
+-- The definitions that the contracts of populations cite.
+pub mod Improved

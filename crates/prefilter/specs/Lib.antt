@@ -1,0 +1,2 @@
+-- The definitions that the contracts of the prefilter cite.
+pub mod Rows

@@ -1,0 +1,17 @@
+-- The two tests of the prefilter on the rows of the instance tables.
+use Prim.Native.Nat.{ℕ, _+_, _*_}
+use mathlib.Core.Bool.{Bool}
+use mathlib.Core.List.{List, map}
+use lib.ListN.{getD}
+use Rattle.lists.specs.Base.{any, range}
+use Rattle.model.specs.declared.CutInstance.{CutInstance}
+use Rattle.model.specs.Fit.{cutFitsStock}
+use Rattle.orders.specs.Rows.{stockAt}
+
+-- the cut fits one of the first boards of a table
+unfoldable pub fitsAny : List ℕ → ℕ → CutInstance → Bool
+fitsAny stock boards cut = any (cutFitsStock cut) (map (stockAt stock) (range boards))
+
+-- width times length of row i, in a table of either kind
+unfoldable pub rowArea : ℕ → List ℕ → ℕ → ℕ
+rowArea stride table i = getD table (stride * i + 3) 0 * getD table (stride * i + 4) 0

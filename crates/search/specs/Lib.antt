@@ -1,0 +1,2 @@
+-- The definitions that the contracts of the search cite.
+pub mod Regions

@@ -1,0 +1,3 @@
+-- The definitions that the contracts of seeds cite.
+pub mod Rows
+pub mod Seeds

@@ -1,0 +1,5 @@
+-- Laws that belong to no one function.
+pub mod Parts
+pub mod Copies
+pub mod Slots
+pub mod Populations

@@ -1,0 +1,2 @@
+-- The definitions that the contracts of survival cite.
+pub mod Ranks
