@@ -1,0 +1,76 @@
+-- `optimizer::find_plan` meets its contract: the winner's plan, or 17.
+use native.Mathlib.Omega.{arith}
+use mathlib.Core.Path.{refl, sym, _∙_}
+use Rattle.candidate.specs.Stands.{instanceIn, candidateIn}
+use Rattle.placing.proofs.Tries.{is-none}
+use Rattle.plan.specs.Sheets.{candidatePlan}
+use Rattle.optimizer.proofs.Ends.{few-numbers, winner-planned, winner-missing, behind-cleared}
+use borrow.Author.Needs.{needs}
+use Rattle.optimizer.proofs.find_plan.Statement.{statement}
+use Rattle.optimizer.proofs.find_plan.Tie as tie
+
+heuristic-variants-requires : tie.Need-heuristic-variants-requires
+heuristic-variants-requires c κs = search needs
+
+search-numbers-requires : tie.Need-search-numbers-requires
+search-numbers-requires c κs = search needs
+
+slice-aggregate-winner : tie.Need-slice-aggregate-winner
+slice-aggregate-winner c = search needs
+
+winner-requires : tie.Need-winner-requires
+winner-requires c κs =
+    let s = c .before .before .before .before .before .before .before .before in
+    let few = few-numbers (c .before .before .search-numbers .result) (s .args .effort) (c .before .before .search-numbers .ensures) in
+    (s .pre .0, c .before .before .before .heuristic-variants .ensures .1, few .0, few .1, omega (arith, s .pre .1), search needs)
+
+write-plan-requires : tie.Need-write-plan-requires
+write-plan-requires c κs =
+    let s = c .before .before .before .before .before .before .before .before .before .before .before .before .before .before .before in
+    (s .pre .0, c .before .before .before .before .before .before .winner .ensures .0 .stands (c .before .before .if1 .taken), s .pre .2)
+
+same-length : tie.Need-same-length
+same-length c = search needs
+
+same-length-2 : tie.Need-same-length-2
+same-length-2 c = search needs
+
+returns : tie.Need-returns
+returns c =
+    let s = c .before .before .before .before .before .before .before .before .before .before .before .before .before .before .before .before .before .before in
+    let w = c .before .before .before .before .before .before .before .before .before .winner .ensures in (
+      record {
+        ends = (
+          candidatePlan (candidateIn (instanceIn (s .args .stock .now) (s .args .cuts .now) (s .args .inst)) (c .before .before .before .before .before .before .before .before .before .winner .result .candidate)),
+          winner-planned (instanceIn (s .args .stock .now) (s .args .cuts .now) (s .args .inst)) _ _ (s .args .effort) (c .before .before .before .before .before .before .before .before .before .before .before .before .before .heuristic-variants .ensures .0) (c .before .before .before .before .before .before .before .before .before .before .before .before .search-numbers .ensures) (s .pre .3) _ (w .0 .is (c .before .before .before .before .before .if1 .taken)),
+          c .before .before .write-plan .ensures .memory,
+        );
+      },
+      behind-cleared _ _ (w .1),
+    )
+
+same-length-3 : tie.Need-same-length-3
+same-length-3 c = search needs
+
+returns-2 : tie.Need-returns-2
+returns-2 c =
+    let s = c .before .before .before .before .before .before .before .before .before .before .before .before .before in
+    let w = c .before .before .before .before .winner .ensures in (
+      record { ends = (winner-missing (instanceIn (s .args .stock .now) (s .args .cuts .now) (s .args .inst)) _ _ (s .args .effort) (c .before .before .before .before .before .before .before .before .heuristic-variants .ensures .0) (c .before .before .before .before .before .before .before .search-numbers .ensures) (s .pre .3) (is-none _ (sym (w .0 .found) ∙ c .if1 .left)), refl) },
+      behind-cleared _ _ (w .1),
+    )
+
+pub find-plan-spec : {M : Type 1} → statement M
+find-plan-spec =
+    tie.close
+    (tie.spec
+    heuristic-variants-requires
+    search-numbers-requires
+    slice-aggregate-winner
+    winner-requires
+    write-plan-requires
+    same-length
+    same-length-2
+    returns
+    same-length-3
+    returns-2)

@@ -1,0 +1,2 @@
+-- What the entry promises.
+pub mod Promise

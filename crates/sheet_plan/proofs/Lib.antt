@@ -1,0 +1,8 @@
+-- Laws that belong to no one function.
+pub mod Patches
+pub mod Waste
+pub mod Joined
+pub mod Making
+pub mod Steps
+pub mod Turns
+pub mod Bodies

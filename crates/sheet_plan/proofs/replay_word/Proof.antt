@@ -1,0 +1,145 @@
+-- An insertion on another board passes by; one on the board finds its place, since the whole making does.
+use Prim.Native.Nat.{ℕ, _<_}
+use native.Mathlib.Omega.{arith}
+use mathlib.Core.Path.{_≡_, sym, ap, _∙_}
+use lib.ListN.{length, getD}
+use borrow.Author.Needs.{needs}
+use Rattle.model.specs.declared.StockInstance.{StockInstance}
+use Rattle.model.specs.Expand.{ProblemInstance}
+use Rattle.orders.specs.Rows.{cutAt}
+use Rattle.candidate.specs.Entries.{boardOf, cutOf}
+use Rattle.candidate.specs.Stands.{instanceIn, boardIn, cutIn}
+use Rattle.candidate.proofs.Instances.{cut-count, cut-in}
+use Rattle.sheet_plan.proofs.Making.{cut-known, row-within, row-is}
+use Rattle.sheet_plan.proofs.Turns.{passed, ready, never, may-take, taken}
+use Rattle.sheet_plan.proofs.replay_word.Statement.{statement}
+use Rattle.sheet_plan.proofs.replay_word.Tie as tie
+
+-- ---- what is read
+
+abbrev inst : tie.Start → ProblemInstance
+inst s = instanceIn (s .args .stock .now) (s .args .cuts .now) (s .args .n)
+
+abbrev word : tie.Start → ℕ
+word s = getD (s .args .insertions .now) (s .args .i) 0
+
+cut-below : (s : tie.Start) → cutOf (word s) < s .args .n .cuts
+cut-below s =
+    omega (
+      arith,
+      cut-known (inst s) (s .args .insertions .now) (s .args .board) (s .pre .1) (s .args .i) (s .pre .2),
+      cut-count (s .args .stock .now) (s .args .cuts .now) (s .args .n),
+    )
+
+on-board : (c : tie.Else1) → boardOf (word (c .before .before .before .before .before .before .before .before .before)) ≡ c .before .before .before .before .before .before .before .before .before .args .board
+on-board c = sym (c .before .board-of .ensures) ∙ c .if1 .left
+
+grain : (c : tie.After-stock-at) → c .stock-at .result .pattern ≡ boardIn (inst (c .before .before .before .before .before .before .before .before .before .before .before)) (c .before .before .before .before .before .before .before .before .before .before .before .args .board) .pattern
+grain c =
+    let s = c .before .before .before .before .before .before .before .before .before .before .before in
+    ap (λ (b : StockInstance). b .pattern) (row-is (s .args .stock .now) (s .args .cuts .now) (s .args .n) (s .args .insertions .now) (s .args .board) (s .pre .1) _ (c .before .wide .ensures) (c .stock-at .result) (c .stock-at .ensures))
+
+cut-read : (c : tie.After-cut-at) → c .cut-at .result ≡ cutIn (inst (c .before .before .before .before .before .before .before .before .before .before .before .before .before .before)) (cutOf (word (c .before .before .before .before .before .before .before .before .before .before .before .before .before .before)))
+cut-read c =
+    let s = c .before .before .before .before .before .before .before .before .before .before .before .before .before .before in
+    let number : c .before .wide2 .result ≡ cutOf (word s) = c .before .wide2 .ensures ∙ c .before .before .cut-of .ensures in
+    c .cut-at .ensures ∙ ap (cutAt (s .args .cuts .now)) number ∙ sym (cut-in (s .args .stock .now) (s .args .cuts .now) (s .args .n) (cutOf (word s)) (cut-below s))
+
+-- ---- the calls
+
+mul-word : tie.Need-mul-word
+mul-word c = search needs
+
+shared-slice-read-word : tie.Need-shared-slice-read-word
+shared-slice-read-word c = search needs
+
+board-of-requires : tie.Need-board-of-requires
+board-of-requires c κs = search needs
+
+returns : tie.Need-returns
+returns c =
+    let s = c .before .before .before .before .before .before .before .before .before in
+    passed (inst s) (s .pre .0 .ranged) (s .args .insertions .now) (s .args .board) (s .pre .1) (s .args .i) (s .pre .2) (s .args .rects .now) (s .args .guide .now) (s .args .p) (s .pre .3) (λ e. c .if1 .taken (c .before .board-of .ensures ∙ e)) (s .args .at) (s .args .plan .now)
+
+wide-requires : tie.Need-wide-requires
+wide-requires c κs = search needs
+
+stock-at-requires : tie.Need-stock-at-requires
+stock-at-requires c κs = let s = c .before .before .before .before .before .before .before .before .before .before in row-within (s .args .stock .now) (s .args .cuts .now) (s .args .n) (s .args .insertions .now) (s .args .board) (s .pre .1) _ (c .wide .ensures) (s .pre .0)
+
+cut-of-requires : tie.Need-cut-of-requires
+cut-of-requires c κs = search needs
+
+wide-requires-2 : tie.Need-wide-requires-2
+wide-requires-2 c κs = search needs
+
+cut-at-requires : tie.Need-cut-at-requires
+cut-at-requires c κs = let s = c .before .before .before .before .before .before .before .before .before .before .before .before .before in omega (arith, c .wide2 .ensures, c .before .cut-of .ensures, s .pre .0 .cutRoom, cut-below s)
+
+row-of-requires : tie.Need-row-of-requires
+row-of-requires c κs = search needs
+
+try-insert-requires : tie.Need-try-insert-requires
+unfolding instanceIn
+try-insert-requires c κs = let s = c .before .before .before .before .before .before .before .before .before .before .before .before .before .before .before .before in ready (inst s) (s .pre .0 .ranged) (s .args .insertions .now) (s .args .board) (s .pre .1) (s .args .i) (s .pre .2) (s .args .rects .now) (s .args .guide .now) (s .args .p) (s .pre .3) (on-board (c .before .before .before .before .before .before .before))
+
+enum-told : tie.Need-enum-told
+enum-told c = search needs
+
+enum-known-inserted : tie.Need-enum-known-inserted
+enum-known-inserted c = search needs
+
+take-piece-requires : tie.Need-take-piece-requires
+unfolding instanceIn
+take-piece-requires c κs =
+    let s = c .before .before .before .before .before .before .before .before .before .before .before .before .before .before .before .before .before .before .before .before .before .before .before .before in
+    may-take (inst s) (s .pre .0 .ranged) (s .args .insertions .now) (s .args .board) (s .pre .1) (s .args .i) (s .pre .2) (s .args .rects .now) (s .args .guide .now) (s .args .p) (s .pre .3) (on-board (c .before .before .before .before .before .before .before .before .before .before .before .before .before .before .before)) _ _ _ (grain (c .before .before .before .before .before .before .before .before .before .before .before .before .before)) (cut-read (c .before .before .before .before .before .before .before .before .before .before)) (c .before .before .before .before .before .before .before .before .before .row-of .ensures) (c .before .before .before .before .before .before .before .try-insert .last .0) (c .before .before .before .before .before .before .before .try-insert .result) (c .before .before .before .before .before .before .before .try-insert .ensures) _ _ _ _ (c .before .before .before .inserted .given .1) (s .args .at) (s .args .plan .now) (s .pre .4)
+
+same-length : tie.Need-same-length
+same-length c = search needs
+
+returns-2 : tie.Need-returns-2
+unfolding instanceIn
+returns-2 c =
+    let s = c .before .before .before .before .before .before .before .before .before .before .before .before .before .before .before .before .before .before .before .before .before in
+    absurd (never (inst s) (s .pre .0 .ranged) (s .args .insertions .now) (s .args .board) (s .pre .1) (s .args .i) (s .pre .2) (s .args .rects .now) (s .args .guide .now) (s .args .p) (s .pre .3) (on-board (c .before .before .before .before .before .before .before .before .before .before .before .before)) _ _ _ (grain (c .before .before .before .before .before .before .before .before .before .before)) (cut-read (c .before .before .before .before .before .before .before)) (c .before .before .before .before .before .before .row-of .ensures) (c .before .before .before .before .try-insert .last .0) (c .before .before .before .before .try-insert .result) (c .before .before .before .before .try-insert .ensures) (c .enum-told .given .1))
+
+same-length-2 : tie.Need-same-length-2
+same-length-2 c = search needs
+
+same-length-3 : tie.Need-same-length-3
+same-length-3 c = search needs
+
+same-length-4 : tie.Need-same-length-4
+same-length-4 c = search needs
+
+returns-3 : tie.Need-returns-3
+unfolding instanceIn
+returns-3 c =
+    let s = c .before .before .before .before .before .before .before .before .before .before .before .before .before .before .before .before .before .before .before .before .before .before .before .before .before .before .before .before .before in
+    taken (inst s) (s .pre .0 .ranged) (s .args .insertions .now) (s .args .board) (s .pre .1) (s .args .i) (s .pre .2) (s .args .rects .now) (s .args .guide .now) (s .args .p) (s .pre .3) (on-board (c .before .before .before .before .before .before .before .before .before .before .before .before .before .before .before .before .before .before .before .before)) _ _ _ (grain (c .before .before .before .before .before .before .before .before .before .before .before .before .before .before .before .before .before .before)) (cut-read (c .before .before .before .before .before .before .before .before .before .before .before .before .before .before .before)) (c .before .before .before .before .before .before .before .before .before .before .before .before .before .before .row-of .ensures) (c .before .before .before .before .before .before .before .before .before .before .before .before .try-insert .last .0) (c .before .before .before .before .before .before .before .before .before .before .before .before .try-insert .result) (c .before .before .before .before .before .before .before .before .before .before .before .before .try-insert .ensures) _ _ _ _ (c .before .before .before .before .before .before .before .before .inserted .given .1) (s .args .at) (s .args .plan .now) _ _ _ (c .before .before .before .before .before .before .before .before .before .before .before .before .try-insert .kept .0 ∙ s .pre .3 .room) (c .before .before .before .before .take-piece .kept .1 .1 .0 ∙ s .pre .3 .space) (c .before .before .before .before .take-piece .ensures)
+
+pub replay-word-spec : {M : Type 1} → statement M
+replay-word-spec =
+    tie.close
+    (tie.spec
+    mul-word
+    shared-slice-read-word
+    board-of-requires
+    returns
+    wide-requires
+    stock-at-requires
+    cut-of-requires
+    wide-requires-2
+    cut-at-requires
+    row-of-requires
+    try-insert-requires
+    enum-told
+    enum-known-inserted
+    take-piece-requires
+    same-length
+    returns-2
+    same-length-2
+    same-length-3
+    same-length-4
+    returns-3)
