@@ -1,0 +1,101 @@
+-- `plan_text::put_sheet` meets its contract: the parts of a body one after the other.
+use native.Mathlib.Omega.{arith}
+use mathlib.Core.Path.{_∙_}
+use Rattle.append.proofs.Laws.{appended-then, appended-is}
+use Rattle.plan_text.proofs.Laws.{sheet-text}
+use borrow.Author.Needs.{needs}
+use Rattle.plan_text.proofs.put_sheet.Statement.{statement}
+use Rattle.plan_text.proofs.put_sheet.Tie as tie
+
+word-requires : tie.Need-word-requires
+word-requires c κs = search needs
+
+count-requires : tie.Need-count-requires
+count-requires c κs = search needs
+
+word-requires-2 : tie.Need-word-requires-2
+word-requires-2 c κs = search needs
+
+count-requires-2 : tie.Need-count-requires-2
+count-requires-2 c κs = search needs
+
+word-requires-3 : tie.Need-word-requires-3
+word-requires-3 c κs = search needs
+
+count-requires-3 : tie.Need-count-requires-3
+count-requires-3 c κs = search needs
+
+slice-aggregate-id-line : tie.Need-slice-aggregate-id-line
+slice-aggregate-id-line c = search needs
+
+id-line-requires : tie.Need-id-line-requires
+id-line-requires c κs = search needs
+
+put-rows-requires : tie.Need-put-rows-requires
+put-rows-requires c κs = search needs
+
+mul-put-rows : tie.Need-mul-put-rows
+mul-put-rows c = search needs
+
+add-put-rows : tie.Need-add-put-rows
+add-put-rows c = search needs
+
+put-rows-requires-2 : tie.Need-put-rows-requires-2
+put-rows-requires-2 c κs = search needs
+
+slice-aggregate-word-line : tie.Need-slice-aggregate-word-line
+slice-aggregate-word-line c = search needs
+
+word-line-requires : tie.Need-word-line-requires
+word-line-requires c κs = search needs
+
+mul-put-rows-2 : tie.Need-mul-put-rows-2
+mul-put-rows-2 c = search needs
+
+add-put-rows-2 : tie.Need-add-put-rows-2
+add-put-rows-2 c = search needs
+
+mul-put-rows-3 : tie.Need-mul-put-rows-3
+mul-put-rows-3 c = search needs
+
+add-put-rows-3 : tie.Need-add-put-rows-3
+add-put-rows-3 c = search needs
+
+put-rows-requires-3 : tie.Need-put-rows-requires-3
+put-rows-requires-3 c κs =
+    let line = c .before .before .before .word-line .ensures in
+    omega (arith, line .reached, line .size, c .before .before .before .before .before .before .before .before .before .before .before .before .before .before .before .before .before .before .before .before .before .before .before .count .ensures, c .before .before .before .before .before .before .before .before .before .before .before .before .before .before .before .before .before .before .before .before .before .before .before .before .word .ok, c .before .before .before .before .before .before .before .before .before .before .before .before .before .before .before .before .before .before .before .before .before .count2 .ensures, c .before .before .before .before .before .before .before .before .before .before .before .before .before .before .before .before .before .before .before .before .before .before .word2 .ok, c .before .before .before .before .before .before .before .before .before .before .before .before .before .before .before .before .before .before .before .count3 .ensures, c .before .before .before .before .before .before .before .before .before .before .before .before .before .before .before .before .before .before .before .before .word3 .ok)
+
+same-length : tie.Need-same-length
+same-length c = search needs
+
+returns : tie.Need-returns
+returns c =
+    appended-is (appended-then (c .before .before .before .before .before .before .before .before .before .before .before .before .before .before .before .before .before .before .before .id-line .ensures) (appended-then (c .before .before .before .before .before .before .before .before .before .before .before .before .before .before .before .put-rows .ensures) (appended-then (c .before .before .before .before .before .before .before .before .before .before .before .put-rows2 .ensures) (appended-then (c .before .before .before .before .before .before .word-line .ensures) (c .before .before .put-rows3 .ensures)))))
+    (sheet-text _ _ _ _ (c .before .before .before .before .before .before .before .before .before .before .before .before .before .before .before .before .before .before .before .before .before .before .before .before .before .before .count .ensures ∙ c .before .before .before .before .before .before .before .before .before .before .before .before .before .before .before .before .before .before .before .before .before .before .before .before .before .before .before .word .ensures) (c .before .before .before .before .before .before .before .before .before .before .before .before .before .before .before .before .before .before .before .before .before .before .before .before .count2 .ensures ∙ c .before .before .before .before .before .before .before .before .before .before .before .before .before .before .before .before .before .before .before .before .before .before .before .before .before .word2 .ensures) (c .before .before .before .before .before .before .before .before .before .before .before .before .before .before .before .before .before .before .before .before .before .before .count3 .ensures ∙ c .before .before .before .before .before .before .before .before .before .before .before .before .before .before .before .before .before .before .before .before .before .before .before .word3 .ensures))
+
+pub put-sheet-spec : {M : Type 1} → statement M
+put-sheet-spec =
+    tie.close
+    (tie.spec
+    word-requires
+    count-requires
+    word-requires-2
+    count-requires-2
+    word-requires-3
+    count-requires-3
+    slice-aggregate-id-line
+    id-line-requires
+    put-rows-requires
+    mul-put-rows
+    add-put-rows
+    put-rows-requires-2
+    slice-aggregate-word-line
+    word-line-requires
+    mul-put-rows-2
+    add-put-rows-2
+    mul-put-rows-3
+    add-put-rows-3
+    put-rows-requires-3
+    same-length
+    returns)

@@ -1,0 +1,123 @@
+-- `project_line::record_line` meets its contract: each field that is missing, and none.
+use mathlib.Core.Path.{sym, _∙_}
+use Rattle.project_line.specs.Lines.{recordLine}
+use Rattle.project_line.proofs.Lines.{taken-none, taken-some, need-none, need-some}
+use borrow.Author.Needs.{needs}
+use Rattle.project_line.proofs.record_line.Statement.{statement}
+use Rattle.project_line.proofs.record_line.Tie as tie
+
+number-at-requires : tie.Need-number-at-requires
+number-at-requires c κs = search needs
+
+enum-known-id : tie.Need-enum-known-id
+enum-known-id c = search needs
+
+enum-told : tie.Need-enum-told
+enum-told c = search needs
+
+returns : tie.Need-returns
+unfolding recordLine
+returns c = sym (need-none _ _ _ (taken-none _ _ _ (c .before .before .number-at .ensures) (c .enum-told .given .1)))
+
+number-at-requires-2 : tie.Need-number-at-requires-2
+number-at-requires-2 c κs = search needs
+
+enum-known-width : tie.Need-enum-known-width
+enum-known-width c = search needs
+
+enum-told-2 : tie.Need-enum-told-2
+enum-told-2 c = search needs
+
+returns-2 : tie.Need-returns-2
+unfolding recordLine
+returns-2 c = sym (need-some _ _ _ _ _ (taken-some _ _ _ (c .before .before .before .before .before .before .number-at .ensures) _ _ (c .before .before .before .before .id .given .1)) ∙ need-none _ _ _ (taken-none _ _ _ (c .before .before .number-at2 .ensures) (c .enum-told2 .given .1)))
+
+number-at-requires-3 : tie.Need-number-at-requires-3
+number-at-requires-3 c κs = search needs
+
+enum-known-length : tie.Need-enum-known-length
+enum-known-length c = search needs
+
+enum-told-3 : tie.Need-enum-told-3
+enum-told-3 c = search needs
+
+returns-3 : tie.Need-returns-3
+unfolding recordLine
+returns-3 c = sym (need-some _ _ _ _ _ (taken-some _ _ _ (c .before .before .before .before .before .before .before .before .before .before .number-at .ensures) _ _ (c .before .before .before .before .before .before .before .before .id .given .1)) ∙ need-some _ _ _ _ _ (taken-some _ _ _ (c .before .before .before .before .before .before .number-at2 .ensures) _ _ (c .before .before .before .before .width .given .1)) ∙ need-none _ _ _ (taken-none _ _ _ (c .before .before .number-at3 .ensures) (c .enum-told3 .given .1)))
+
+quantity-at-requires : tie.Need-quantity-at-requires
+quantity-at-requires c κs = search needs
+
+enum-known-quantity : tie.Need-enum-known-quantity
+enum-known-quantity c = search needs
+
+enum-told-4 : tie.Need-enum-told-4
+enum-told-4 c = search needs
+
+returns-4 : tie.Need-returns-4
+unfolding recordLine
+returns-4 c = sym (need-some _ _ _ _ _ (taken-some _ _ _ (c .before .before .before .before .before .before .before .before .before .before .before .before .before .before .number-at .ensures) _ _ (c .before .before .before .before .before .before .before .before .before .before .before .before .id .given .1)) ∙ need-some _ _ _ _ _ (taken-some _ _ _ (c .before .before .before .before .before .before .before .before .before .before .number-at2 .ensures) _ _ (c .before .before .before .before .before .before .before .before .width .given .1)) ∙ need-some _ _ _ _ _ (taken-some _ _ _ (c .before .before .before .before .before .before .number-at3 .ensures) _ _ (c .before .before .before .before .length .given .1)) ∙ need-none _ _ _ (taken-none _ _ _ (c .before .before .quantity-at .ensures) (c .enum-told4 .given .1)))
+
+grain-at-requires : tie.Need-grain-at-requires
+grain-at-requires c κs = search needs
+
+enum-known-pattern : tie.Need-enum-known-pattern
+enum-known-pattern c = search needs
+
+enum-told-5 : tie.Need-enum-told-5
+enum-told-5 c = search needs
+
+returns-5 : tie.Need-returns-5
+unfolding recordLine
+returns-5 c = sym (need-some _ _ _ _ _ (taken-some _ _ _ (c .before .before .before .before .before .before .before .before .before .before .before .before .before .before .before .before .before .before .number-at .ensures) _ _ (c .before .before .before .before .before .before .before .before .before .before .before .before .before .before .before .before .id .given .1)) ∙ need-some _ _ _ _ _ (taken-some _ _ _ (c .before .before .before .before .before .before .before .before .before .before .before .before .before .before .number-at2 .ensures) _ _ (c .before .before .before .before .before .before .before .before .before .before .before .before .width .given .1)) ∙ need-some _ _ _ _ _ (taken-some _ _ _ (c .before .before .before .before .before .before .before .before .before .before .number-at3 .ensures) _ _ (c .before .before .before .before .before .before .before .before .length .given .1)) ∙ need-some _ _ _ _ _ (taken-some _ _ _ (c .before .before .before .before .before .before .quantity-at .ensures) _ _ (c .before .before .before .before .quantity .given .1)) ∙ need-none _ _ _ (taken-none _ _ _ (c .before .before .grain-at .ensures) (c .enum-told5 .given .1)))
+
+flag-at-requires : tie.Need-flag-at-requires
+flag-at-requires c κs = search needs
+
+enum-known-flag : tie.Need-enum-known-flag
+enum-known-flag c = search needs
+
+enum-told-6 : tie.Need-enum-told-6
+enum-told-6 c = search needs
+
+returns-6 : tie.Need-returns-6
+unfolding recordLine
+returns-6 c = sym (need-some _ _ _ _ _ (taken-some _ _ _ (c .before .before .before .before .before .before .before .before .before .before .before .before .before .before .before .before .before .before .before .before .before .before .number-at .ensures) _ _ (c .before .before .before .before .before .before .before .before .before .before .before .before .before .before .before .before .before .before .before .before .id .given .1)) ∙ need-some _ _ _ _ _ (taken-some _ _ _ (c .before .before .before .before .before .before .before .before .before .before .before .before .before .before .before .before .before .before .number-at2 .ensures) _ _ (c .before .before .before .before .before .before .before .before .before .before .before .before .before .before .before .before .width .given .1)) ∙ need-some _ _ _ _ _ (taken-some _ _ _ (c .before .before .before .before .before .before .before .before .before .before .before .before .before .before .number-at3 .ensures) _ _ (c .before .before .before .before .before .before .before .before .before .before .before .before .length .given .1)) ∙ need-some _ _ _ _ _ (taken-some _ _ _ (c .before .before .before .before .before .before .before .before .before .before .quantity-at .ensures) _ _ (c .before .before .before .before .before .before .before .before .quantity .given .1)) ∙ need-some _ _ _ _ _ (taken-some _ _ _ (c .before .before .before .before .before .before .grain-at .ensures) _ _ (c .before .before .before .before .pattern .given .1)) ∙ need-none _ _ _ (taken-none _ _ _ (c .before .before .flag-at .ensures) (c .enum-told6 .given .1)))
+
+end-line-requires : tie.Need-end-line-requires
+end-line-requires c κs = search needs
+
+returns-7 : tie.Need-returns-7
+unfolding recordLine
+returns-7 c = c .end-line .ensures ∙ sym (need-some _ _ _ _ _ (taken-some _ _ _ (c .before .before .before .before .before .before .before .before .before .before .before .before .before .before .before .before .before .before .before .before .before .before .before .before .number-at .ensures) _ _ (c .before .before .before .before .before .before .before .before .before .before .before .before .before .before .before .before .before .before .before .before .before .before .id .given .1)) ∙ need-some _ _ _ _ _ (taken-some _ _ _ (c .before .before .before .before .before .before .before .before .before .before .before .before .before .before .before .before .before .before .before .before .number-at2 .ensures) _ _ (c .before .before .before .before .before .before .before .before .before .before .before .before .before .before .before .before .before .before .width .given .1)) ∙ need-some _ _ _ _ _ (taken-some _ _ _ (c .before .before .before .before .before .before .before .before .before .before .before .before .before .before .before .before .number-at3 .ensures) _ _ (c .before .before .before .before .before .before .before .before .before .before .before .before .before .before .length .given .1)) ∙ need-some _ _ _ _ _ (taken-some _ _ _ (c .before .before .before .before .before .before .before .before .before .before .before .before .quantity-at .ensures) _ _ (c .before .before .before .before .before .before .before .before .before .before .quantity .given .1)) ∙ need-some _ _ _ _ _ (taken-some _ _ _ (c .before .before .before .before .before .before .before .before .grain-at .ensures) _ _ (c .before .before .before .before .before .before .pattern .given .1)) ∙ need-some _ _ _ _ _ (taken-some _ _ _ (c .before .before .before .before .flag-at .ensures) _ _ (c .before .before .flag .given .1)))
+
+pub record-line-spec : {M : Type 1} → statement M
+record-line-spec =
+    tie.close
+    (tie.spec
+    number-at-requires
+    enum-known-id
+    enum-told
+    returns
+    number-at-requires-2
+    enum-known-width
+    enum-told-2
+    returns-2
+    number-at-requires-3
+    enum-known-length
+    enum-told-3
+    returns-3
+    quantity-at-requires
+    enum-known-quantity
+    enum-told-4
+    returns-4
+    grain-at-requires
+    enum-known-pattern
+    enum-told-5
+    returns-5
+    flag-at-requires
+    enum-known-flag
+    enum-told-6
+    returns-6
+    end-line-requires
+    returns-7)
