@@ -25,7 +25,6 @@ use Rattle.model.specs.Answer.{Answer as Answered}
 use Rattle.model.specs.Outcome.{Outcome, leastWorkspace, leastPlan, searches, cleared, outcome}
 use Rattle.model.proofs.Memory.{small-refused, outcome-answer, refusal-untouched, plan-first, not-searched-as-found, searched-cleared}
 use Rattle.trust.specs.Trusted.{Trusted}
-use Rattle.trust.proofs.PlanTrusted.{trusted}
 use Rattle.trust.proofs.PopulationSize.{source-within}
 use Rattle.model.specs.declared.OptimizerEffort.{OptimizerEffort}
 use Rattle.seeds.specs.declared.SearchNumbers.{SearchNumbers as SearchNumbersIn}
@@ -34,46 +33,32 @@ use Rattle.search.specs.Regions.{behindSlots}
 use Rattle.plan.specs.Sheets.{candidatePlan}
 use Rattle.optimizer.specs.declared.Answer.{Answer}
 use Rattle.optimizer.specs.Promise.{numberOf, numberOfAnswer, Ends, Promise}
+use Rattle.optimizer.proofs.Numbers.{zero-trusted}
 
--- a refusal promises nothing of a plan
-not-plan : (n : ℕ) → Answer.Refused n ≡ Answer.Plan → ⊥
-not-plan n e = subst is-refusal e tt
-  where
-    is-refusal : Answer → Type 0
-    is-refusal Answer.Plan = ⊥
-    is-refusal (Answer.Refused k) = Unit {0}
+-- a plan as the definition says can be trusted
+promised : {f w p w′ p′ : List ℕ} {n : ℕ} → n ≡ numberOfAnswer (outcome f w p .answer) → p′ ≡ outcome f w p .plan → w′ ≡ outcome f w p .workspace → Promise f w p n w′ p′
+promised {f} {w} {p} {w′} {p′} {n} a q u =
+    record {
+      answer = a;
+      plan = q;
+      workspace = u;
+      trusted = λ e. subst (Trusted f) (sym q) (zero-trusted f w p (sym a ∙ e));
+    }
 
 -- ---- too little memory
 
-pub end-small : (f w p : List ℕ) → (length w < leastWorkspace) ⊎ (length p < leastPlan) → Promise f w p (Answer.Refused 1) w p
+pub end-small : (f w p : List ℕ) → (length w < leastWorkspace) ⊎ (length p < leastPlan) → Promise f w p 1 w p
 end-small f w p h =
     let o = small-refused f w p h in
-    record {
-      answer = ap (λ (x : Outcome). numberOfAnswer (x .answer)) (sym o);
-      plan = ap (λ (x : Outcome). x .plan) (sym o);
-      workspace = ap (λ (x : Outcome). x .workspace) (sym o);
-      trusted = λ e. absurd (not-plan 1 e);
-    }
+    promised (ap (λ (x : Outcome). numberOfAnswer (x .answer)) (sym o)) (ap (λ (x : Outcome). x .plan) (sym o)) (ap (λ (x : Outcome). x .workspace) (sym o))
 
 module _ (f w p : List ℕ) (h : leastWorkspace ≤ length w) (k : leastPlan ≤ length p) where
   -- a refusal, and a plan, whose words come first; the workspace afterwards is the definition's
-  refusal : (n : ℕ) (w′ : List ℕ) → answer f ≡ refused n → w′ ≡ outcome f w p .workspace → Promise f w p (Answer.Refused n) w′ p
-  refusal n w′ e u =
-      record {
-        answer = ap numberOfAnswer (sym e) ∙ ap numberOfAnswer (sym (outcome-answer f w p h k));
-        plan = sym (refusal-untouched f w p h k n e);
-        workspace = u;
-        trusted = λ q. absurd (not-plan n q);
-      }
+  refusal : (n : ℕ) (w′ : List ℕ) → answer f ≡ refused n → w′ ≡ outcome f w p .workspace → Promise f w p n w′ p
+  refusal n w′ e u = promised (ap numberOfAnswer (sym e) ∙ ap numberOfAnswer (sym (outcome-answer f w p h k))) (sym (refusal-untouched f w p h k n e)) u
 
-  planned : (words w′ : List ℕ) → answer f ≡ plan words → w′ ≡ outcome f w p .workspace → Promise f w p Answer.Plan w′ (words ++ drop (length words) p)
-  planned words w′ e u =
-      record {
-        answer = ap numberOfAnswer (sym e) ∙ ap numberOfAnswer (sym (outcome-answer f w p h k));
-        plan = sym (plan-first f w p h k words e);
-        workspace = u;
-        trusted = λ q. trusted f words (drop (length words) p) e;
-      }
+  planned : (words w′ : List ℕ) → answer f ≡ plan words → w′ ≡ outcome f w p .workspace → Promise f w p 0 w′ (words ++ drop (length words) p)
+  planned words w′ e u = promised (ap numberOfAnswer (sym e) ∙ ap numberOfAnswer (sym (outcome-answer f w p h k))) (sym (plan-first f w p h k words e)) u
 
   -- ---- the file is refused
 
@@ -85,7 +70,7 @@ module _ (f w p : List ℕ) (h : leastWorkspace ≤ length w) (k : leastPlan ≤
   unfolding searches
   not-searched n e = rw e
 
-  pub end-file : (n : ℕ) → fileRefusal f ≡ some n → Promise f w p (Answer.Refused n) w p
+  pub end-file : (n : ℕ) → fileRefusal f ≡ some n → Promise f w p n w p
   end-file n e = refusal n w (refused-file n e) (sym (not-searched-as-found f w p h k (not-searched n e)))
 
   -- ---- the file passes
@@ -102,7 +87,7 @@ module _ (f w p : List ℕ) (h : leastWorkspace ≤ length w) (k : leastPlan ≤
     abbrev pub emptyWords : List ℕ
     emptyWords = planWords (layoutOf (projectOf f .layout)) one []
 
-    pub end-empty : inst .cuts ≡ [] → Promise f w p Answer.Plan w (emptyWords ++ drop (length emptyWords) p)
+    pub end-empty : inst .cuts ≡ [] → Promise f w p 0 w (emptyWords ++ drop (length emptyWords) p)
     unfolding optimized searches
     end-empty e =
         planned emptyWords w (passed-answer ∙ none-asked) (sym (not-searched-as-found f w p h k (rw (passed, e))))
@@ -126,18 +111,18 @@ module _ (f w p : List ℕ) (h : leastWorkspace ≤ length w) (k : leastPlan ≤
       same-cleared v e = ap (λ (l : List ℕ). replicate leastWorkspace 0 ++ l) e ∙ sym (searched-cleared f w p h k is-searched)
 
       pub end-refused : (n : ℕ) (v : List ℕ) → searched heuristicVariants LayoutKind.Guillotine inst (searchNumbers (effortOf (projectOf f .effort))) ≡ refused n
-          → drop leastWorkspace v ≡ drop leastWorkspace w → Promise f w p (Answer.Refused n) (cleared leastWorkspace v) p
+          → drop leastWorkspace v ≡ drop leastWorkspace w → Promise f w p n (cleared leastWorkspace v) p
       end-refused n v e u = refusal n (cleared leastWorkspace v) (search-answer ∙ e) (same-cleared v u)
 
       pub end-planned : (words v : List ℕ) → searched heuristicVariants LayoutKind.Guillotine inst (searchNumbers (effortOf (projectOf f .effort))) ≡ plan words
-          → drop leastWorkspace v ≡ drop leastWorkspace w → Promise f w p Answer.Plan (cleared leastWorkspace v) (words ++ drop (length words) p)
+          → drop leastWorkspace v ≡ drop leastWorkspace w → Promise f w p 0 (cleared leastWorkspace v) (words ++ drop (length words) p)
       end-planned words v e u = planned words (cleared leastWorkspace v) (search-answer ∙ e) (same-cleared v u)
 
       -- either, as the search says
       pub end-search : (r : Answer) (p′ v : List ℕ) → Ends (searched heuristicVariants LayoutKind.Guillotine inst (searchNumbers (effortOf (projectOf f .effort)))) r p p′
-          → drop leastWorkspace v ≡ drop leastWorkspace w → Promise f w p r (cleared leastWorkspace v) p′
-      end-search Answer.Plan p′ v e u = subst (λ (x : List ℕ). Promise f w p Answer.Plan (cleared leastWorkspace v) x) (sym (e .ends .2)) (end-planned (e .ends .0) v (e .ends .1) u)
-      end-search (Answer.Refused n) p′ v e u = subst (λ (x : List ℕ). Promise f w p (Answer.Refused n) (cleared leastWorkspace v) x) (sym (e .ends .1)) (end-refused n v (e .ends .0) u)
+          → drop leastWorkspace v ≡ drop leastWorkspace w → Promise f w p (numberOf r) (cleared leastWorkspace v) p′
+      end-search Answer.Plan p′ v e u = subst (λ (x : List ℕ). Promise f w p 0 (cleared leastWorkspace v) x) (sym (e .ends .2)) (end-planned (e .ends .0) v (e .ends .1) u)
+      end-search (Answer.Refused n) p′ v e u = subst (λ (x : List ℕ). Promise f w p n (cleared leastWorkspace v) x) (sym (e .ends .1)) (end-refused n v (e .ends .0) u)
 
 -- ---- the search
 
@@ -200,5 +185,8 @@ pub searched-as : {i i′ : ProblemInstance} {e e′ : OptimizerEffort} → i �
     → searched heuristicVariants LayoutKind.Guillotine i (searchNumbers e) ≡ searched heuristicVariants LayoutKind.Guillotine i′ (searchNumbers e′)
 searched-as p q = λ k. searched heuristicVariants LayoutKind.Guillotine (p k) (searchNumbers (q k))
 
-pub promise-as : {f w p v v′ p′ : List ℕ} {r : Answer} → v′ ≡ v → Promise f w p r v p′ → Promise f w p r v′ p′
-promise-as {f} {w} {p} {p′ = p′} {r = r} e h = subst (λ (x : List ℕ). Promise f w p r x p′) (sym e) h
+pub promise-as : {f w p v v′ p′ : List ℕ} {n : ℕ} → v′ ≡ v → Promise f w p n v p′ → Promise f w p n v′ p′
+promise-as {f} {w} {p} {p′ = p′} {n = n} e h = subst (λ (x : List ℕ). Promise f w p n x p′) (sym e) h
+
+pub promise-numbered : {f w p v p′ : List ℕ} {n m : ℕ} → n ≡ m → Promise f w p n v p′ → Promise f w p m v p′
+promise-numbered {f} {w} {p} {v} {p′} e h = subst (λ (x : ℕ). Promise f w p x v p′) e h

@@ -27,12 +27,12 @@ pub record Ends (a : Answered) (r : Answer) (before after : List ℕ) : Type 0 w
   pub ends : EndsIn a r before after
 
 -- `words` are the workspace's, `memory` the plan's, each before and after the call
-pub record Promise (file words memory : List ℕ) (r : Answer) (wordsAfter memoryAfter : List ℕ) : Type 0 where
-  -- the answer, refusal 1 to 17 in order
-  pub answer : numberOf r ≡ numberOfAnswer (outcome file words memory .answer)
+pub record Promise (file words memory : List ℕ) (number : ℕ) (wordsAfter memoryAfter : List ℕ) : Type 0 where
+  -- the answer's number: a plan, or refusal 1 to 17 in order
+  pub answer : number ≡ numberOfAnswer (outcome file words memory .answer)
   -- the plan's words, then the old values; untouched on a refusal
   pub plan : memoryAfter ≡ outcome file words memory .plan
   -- as found, or its first 16,384 words zero and the rest as found
   pub workspace : wordsAfter ≡ outcome file words memory .workspace
   -- demand 3
-  pub trusted : r ≡ Answer.Plan → Trusted file memoryAfter
+  pub trusted : number ≡ 0 → Trusted file memoryAfter

@@ -118,7 +118,7 @@ fn optimize_cuts(
 // A project that no check refuses.
 fn optimize_project(file: &[u8], workspace: &mut [u32], plan: &mut [u32]) -> Answer
     requires { ⌜ (fileRefusal (now file) ≡ none) × (leastWorkspace ≤ length (now workspace)) × (leastPlan ≤ length (now plan)) ⌝ }
-    ensures { λ r. ⌜ Promise (now (file .entry)) (now (workspace .entry)) (now (plan .entry)) r (now (workspace .exit)) (now (plan .exit)) ⌝ }
+    ensures { λ r. ⌜ Promise (now (file .entry)) (now (workspace .entry)) (now (plan .entry)) (numberOf r) (now (workspace .exit)) (now (plan .exit)) ⌝ }
 {
     let cut_table = instances::cut_table(file);
     if cut_table.count == 0 {
@@ -133,7 +133,7 @@ fn optimize_project(file: &[u8], workspace: &mut [u32], plan: &mut [u32]) -> Ans
 
 // From any bytes, in any lent memory, to a plan or one numbered refusal.
 pub fn optimize(file: &[u8], workspace: &mut [u32], plan: &mut [u32]) -> Answer
-    ensures { λ r. ⌜ Promise (now (file .entry)) (now (workspace .entry)) (now (plan .entry)) r (now (workspace .exit)) (now (plan .exit)) ⌝ }
+    ensures { λ r. ⌜ Promise (now (file .entry)) (now (workspace .entry)) (now (plan .entry)) (numberOf r) (now (workspace .exit)) (now (plan .exit)) ⌝ }
 {
     if workspace.len() < WORKSPACE {
         return Answer::Refused(1);
@@ -145,5 +145,16 @@ pub fn optimize(file: &[u8], workspace: &mut [u32], plan: &mut [u32]) -> Answer
     match checked {
         Checked::Refused(n) => Answer::Refused(n),
         Checked::Passed => optimize_project(file, workspace, plan),
+    }
+}
+
+// The same for callers in C and Rust: an answer is its number, 0 for a plan.
+#[no_mangle]
+pub extern "C" fn optimizer_optimize(file: &[u8], workspace: &mut [u32], plan: &mut [u32]) -> u32
+    ensures { λ r. ⌜ Promise (now (file .entry)) (now (workspace .entry)) (now (plan .entry)) r (now (workspace .exit)) (now (plan .exit)) ⌝ }
+{
+    match optimize(file, workspace, plan) {
+        Answer::Plan => 0,
+        Answer::Refused(n) => n,
     }
 }

@@ -32,7 +32,7 @@ returns : tie.Need-returns
 returns c =
     let s = c .before .before .before .before .before .before .before .before .before .before .before in
     let words : LayoutKind → List ℕ = λ l. planWords l one [] in
-    subst (λ (x : List ℕ). Promise (s .args .file .now) (s .args .workspace .now) (s .args .plan .now) Answer.Plan (s .args .workspace .now) x)
+    subst (λ (x : List ℕ). Promise (s .args .file .now) (s .args .workspace .now) (s .args .plan .now) 0 (s .args .workspace .now) x)
     (sym (c .before .before .empty-plan .ensures .memory ∙ ap (λ (l : LayoutKind). words l ++ drop (length (words l)) (s .args .plan .now)) (c .before .before .before .before .layout-kind .ensures)))
     (end-empty (s .args .file .now) (s .args .workspace .now) (s .args .plan .now) (s .pre .1) (s .pre .2) (s .pre .0) (length-zero (expandProject (projectOf (s .args .file .now)) .cuts) (sym (c .before .before .before .before .before .before .before .cut-table .ensures .counted) ∙ c .before .before .before .before .before .if1 .taken)))
 
