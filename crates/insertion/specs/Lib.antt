@@ -1,0 +1,2 @@
+-- One attempt to insert a cut.
+pub mod Attempt
