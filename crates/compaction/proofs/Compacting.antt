@@ -23,7 +23,7 @@ use Rattle.trust.proofs.Compact.{bin-found}
 use Rattle.trust.proofs.Winner.{Admitted}
 use Rattle.trust.proofs.Ranges.{Ranged}
 use Rattle.trust.proofs.Proper.{SheetProper, UnderWay, compact-proper}
-use Rattle.trust.proofs.Search.{retain-sub}
+use Rattle.trust.proofs.Lists.{retain-sub}
 use Rattle.candidate.specs.declared.Candidate.{Candidate as Words}
 use Rattle.candidate.specs.Entries.{boardOf, cutOf, onBoard}
 use Rattle.candidate.specs.Stands.{boardIn, cutIn, insertionIn, makingIn, binIn, sheetBoards, availableBoards, placedWords, unusedNumbers, candidateIn, Stands}

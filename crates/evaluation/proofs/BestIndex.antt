@@ -18,7 +18,7 @@ use Rattle.model.specs.Sheet.{GuillotineSheet, placedArea}
 use Rattle.model.specs.Fitness.{sheetFitness, compareFloat}
 use Rattle.model.specs.Candidate.{Candidate, worstBin}
 use Rattle.model.specs.Search.{bestDonorBin}
-use Rattle.trust.proofs.Search.{all-any}
+use Rattle.trust.proofs.Lists.{all-any}
 use Rattle.fitness.specs.Areas.{shareOf}
 use Rattle.fitness.proofs.Sheets.{boardArea, sheetFitness-areas}
 use Rattle.candidate.proofs.Lists.{range-below, map-same}

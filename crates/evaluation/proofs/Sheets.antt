@@ -9,7 +9,7 @@ use mathlib.Core.Option.{Option, none, some, Option·some-injective, Option·non
 use lib.Dec.{T, eqb}
 use lib.ListN.{length, getD, take, length-take}
 use lib.Seq.{length-take-le, getD-take, take-take}
-use Rattle.lists.specs.Base.{_>>=_, sum, range, retain, foldOption, concatMap}
+use Rattle.lists.specs.Base.{_>>=_, sum, range, retain, foldOption}
 use Rattle.lists.proofs.Perm.{Perm, perm-sym, All, all-map, all-both, all-left, all-perm, sum-perm, in-all}
 use Rattle.lists.proofs.Sums.{length-map, sum-append}
 use Rattle.model.specs.declared.StockInstance.{StockInstance}
@@ -21,9 +21,9 @@ use Rattle.model.specs.Expand.{ProblemInstance}
 use Rattle.trust.specs.Limits.{mostAreas}
 use Rattle.trust.proofs.Candidate.{cutsOf, placedCuts}
 use Rattle.trust.proofs.Sheet.{tryInsert-inserted}
-use Rattle.trust.proofs.Search.{retain-sub}
+use Rattle.trust.proofs.Lists.{retain-sub}
 use Rattle.trust.proofs.Proper.{SheetProper}
-use Rattle.trust.proofs.Scores.{placedAreas, placed-areas}
+use Rattle.trust.proofs.Scores.{sheet-area}
 use Rattle.trust.proofs.CandidateSize.{cut-area-most}
 use Rattle.orders.specs.Rows.{stockWords, cutWords, stockAt, cutAt}
 use Rattle.candidate.specs.declared.Instance.{Instance}
@@ -91,11 +91,6 @@ module _ (kerf : ℕ) where
   rebuild-made board making t e = again (newSheet board) t making e
 
 -- ---- a sheet of a candidate
-
--- the area on a sheet is that of its cuts
-sheet-area : (kerf : ℕ) (s : GuillotineSheet) → SheetProper kerf s → placedArea s ≡ sum (map cutArea (cutsOf s))
-unfolding placedAreas sum concatMap
-sheet-area kerf s h = omega (arith, placed-areas kerf (s ∷ []) (h, tt), ap (λ (l : List CutInstance). sum (map cutArea l)) (append-nil (cutsOf s)))
 
 module _ (inst : ProblemInstance) (later : List ℕ) (c : Words) (s : Stands inst later c) where
   abbrev words : List ℕ
@@ -219,7 +214,7 @@ module _ (stock cuts : List ℕ) (n : Instance) (later : List ℕ) (c : Words) (
   bin-placed =
       all-both (λ b. cutsOf (binIn shown (placedWords c) b) ≡ map (cutIn shown) (map cutOf (onBoard b (placedWords c)))) (λ b. SheetProper (shown .kerfWidth) (binIn shown (placedWords c) b))
       (λ b. placedArea (binIn shown (placedWords c) b) ≡ placedOn cuts (placedWords c) b)
-      (λ b e p. sheet-area (shown .kerfWidth) (binIn shown (placedWords c) b) p ∙ ap (λ (l : List CutInstance). sum (map cutArea l)) e ∙ cuts-area b) (sheetBoards c)
+      (λ b e p. sym (sheet-area (shown .kerfWidth) (binIn shown (placedWords c) b) p) ∙ ap (λ (l : List CutInstance). sum (map cutArea l)) e ∙ cuts-area b) (sheetBoards c)
       (bin-cuts shown later c s) (bins-proper shown later c s)
 
   -- ---- both areas of every sheet, as the loop over the sheets finds them

@@ -2,5 +2,4 @@ pub mod Product
 pub mod Order
 pub mod Shares
 pub mod Sheets
-pub mod Round
 pub mod Bounds

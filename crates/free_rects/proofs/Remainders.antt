@@ -1,11 +1,11 @@
--- What a split leaves: at most two rectangles, in range.
+-- What a split leaves is in range.
 use Prim.Native.Nat.{ℕ, _-_, _≤_, _<_}
 use native.Mathlib.Omega.{arith}
 use mathlib.Core.Path.{_≡_, refl}
 use mathlib.Core.Bool.{Bool, true, false}
 use mathlib.Core.List.{List, [], _∷_}
 use lib.Dec.{ltb}
-use lib.ListN.{length, length-append}
+use lib.ListN.{length}
 use borrow.Author.Tests.{ltb-true}
 use Rattle.lists.specs.Base.{if_then_else_, swapRemove}
 use Rattle.lists.proofs.Perm.{All, all-append, all-perm, swapRemove-out}
@@ -14,23 +14,6 @@ use Rattle.model.specs.declared.Direction.{Direction}
 use Rattle.model.specs.Types.{noRect}
 use Rattle.model.specs.Split.{bottomRemainder, rightRemainder, bottomWidth, rightLength, splitFreeRect}
 use Rattle.free_rects.specs.Bounds.{Small, Inside}
-
-at-most-one : (b : Bool) (r : Rect) → length (if b then r ∷ [] else []) ≤ 1
-at-most-one true r = omega arith
-at-most-one false r = omega arith
-
-bottom-one : (kerf : ℕ) (free placed : Rect) (width : ℕ) → length (bottomRemainder kerf free placed width) ≤ 1
-unfolding bottomRemainder
-bottom-one kerf free placed width = at-most-one (ltb kerf (free .length - placed .length)) _
-
-right-one : (kerf : ℕ) (free placed : Rect) (long : ℕ) → length (rightRemainder kerf free placed long) ≤ 1
-unfolding rightRemainder
-right-one kerf free placed long = at-most-one (ltb kerf (free .width - placed .width)) _
-
-pub split-two : (d : Direction) (kerf : ℕ) (free placed : Rect) → length (splitFreeRect d kerf free placed) ≤ 2
-unfolding splitFreeRect
-split-two d kerf free placed =
-    rw length-append (omega (arith, bottom-one kerf free placed (bottomWidth d free placed), right-one kerf free placed (rightLength d free placed)))
 
 one-small : (b : Bool) (r : Rect) → (b ≡ true → Small r) → All Small (if b then r ∷ [] else [])
 one-small true r p = (p refl, tt)

@@ -14,6 +14,7 @@ use Rattle.model.specs.declared.Direction.{Direction}
 use Rattle.model.specs.Types.{noRect}
 use Rattle.model.specs.Split.{bottomRemainder, rightRemainder, bottomWidth, rightLength, splitFreeRect}
 use Rattle.model.specs.Merge.{Pair, firstPair, mergeRounds, mergeFreeRects, mergesAny}
+use Rattle.trust.proofs.Sizes.{split-length}
 use Rattle.free_rects.specs.declared.FreeRects.{FreeRects}
 use Rattle.free_rects.specs.declared.MergedFree.{MergedFree}
 use Rattle.free_rects.specs.declared.Remainder.{Remainder}
@@ -21,7 +22,7 @@ use Rattle.free_rects.specs.FreeList.{rectsOf, Holds, remainderOf}
 use Rattle.free_rects.specs.Bounds.{Small, Inside}
 use Rattle.free_rects.specs.Merging.{Scannable, MergesTo}
 use Rattle.free_rects.proofs.Arrays.{all-get, swap-length}
-use Rattle.free_rects.proofs.Remainders.{split-two, split-small, swap-small}
+use Rattle.free_rects.proofs.Remainders.{split-small, swap-small}
 use Rattle.free_rects.proofs.Apart.{swap-apart}
 use Rattle.free_rects.proofs.Rounds.{rounds-stop}
 use Rattle.guillotine.specs.SheetWords.{rectsIn, withRects}
@@ -74,7 +75,7 @@ module _ (kerf : ℕ) (w : List ℕ) (i : ℕ) (r p : Rect) (d : Direction)
               thin = ready .ready .thin;
               small = rw is
                   (all-append Small old new (swap-small (rectsIn w) i (at .inside) (ready .ready .small)) (split-small kerf r p small-rect inside d));
-              room = omega (arith, room, parted .counts, split-two d kerf r p);
+              room = omega (arith, room, parted .counts, split-length d kerf r p);
               apart = rw first (swap-apart kerf (rectsIn w) i (at .inside) (ready .ready .apart));
             }
 

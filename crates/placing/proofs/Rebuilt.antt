@@ -16,7 +16,7 @@ use Rattle.model.specs.Sheet.{GuillotineSheet, Insertion, Place, newSheet, best
 use Rattle.model.specs.Expand.{ProblemInstance}
 use Rattle.trust.proofs.Sheet.{tryInsert-inserted}
 use Rattle.trust.proofs.Sizes.{FreeCount, insert-free}
-use Rattle.trust.proofs.Bounded.{at-place}
+use Rattle.trust.proofs.Placing.{at-place}
 use Rattle.trust.proofs.Ranges.{BoardRange}
 use Rattle.guillotine.specs.Insertions.{Ready}
 use Rattle.guillotine.proofs.Sheets.{insert-ready, new-ready}

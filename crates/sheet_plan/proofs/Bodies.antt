@@ -13,7 +13,7 @@ use Rattle.model.specs.Sheet.{GuillotineSheet, placedArea}
 use Rattle.model.specs.Plan.{words64, rectWords, pieceWords, nodesOf, nodeWords, useOf, sawOf, sheetWords}
 use Rattle.trust.specs.Limits.{mostArea}
 use Rattle.trust.proofs.Bounded.{Bounded, placed-most, board-area-most}
-use Rattle.trust.proofs.PlanSize.{sheet-length}
+use Rattle.trust.proofs.RoundTrip.{sheet-length}
 use Rattle.trust.proofs.PlanRange.{saw-range}
 use Rattle.guillotine.specs.SheetWords.{rectsIn, Block}
 use Rattle.guillotine.proofs.Words.{length-rects, length-words}

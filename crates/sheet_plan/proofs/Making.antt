@@ -16,9 +16,10 @@ use Rattle.lists.proofs.Sums.{length-map, map-append}
 use Rattle.model.specs.declared.StockInstance.{StockInstance}
 use Rattle.model.specs.Sheet.{GuillotineSheet, PlacedPiece, Insertion, Place, newSheet, insertAt, tryInsert, rebuild, makingOf}
 use Rattle.model.specs.Expand.{ProblemInstance}
+use Rattle.trust.proofs.Placing.{at-place}
 use Rattle.trust.proofs.Sheet.{tryInsert-inserted}
 use Rattle.trust.proofs.Ranges.{BoardRange, PanelRange, Ranged}
-use Rattle.trust.proofs.Bounded.{Bounded, at-place, new-bounded, tryInsert-bounded}
+use Rattle.trust.proofs.Bounded.{Bounded, new-bounded, tryInsert-bounded}
 use Rattle.free_rects.proofs.Arrays.{all-get}
 use Rattle.orders.specs.Rows.{stockWords, stockAt}
 use Rattle.candidate.specs.declared.Instance.{Instance}

@@ -2,24 +2,24 @@
 use Prim.Native.Nat.{ℕ, _+_, _*_, _≤_}
 use native.Mathlib.Nat.{le-refl, mul-le-mul}
 use native.Mathlib.Omega.{arith}
-use mathlib.Core.Path.{_≡_, refl, ap, subst}
+use mathlib.Core.Path.{_≡_, refl, ap}
 use mathlib.Core.List.{List, [], _∷_, map}
-use mathlib.Core.Option.{Option, none, some, Option·some-injective, Option·none-ne-some}
+use mathlib.Core.Option.{some}
 use lib.ListN.{length, length-append}
-use Rattle.lists.specs.Base.{_>>=_, sum, swapRemove}
+use Rattle.lists.specs.Base.{sum, swapRemove}
 use Rattle.model.specs.declared.Rect.{Rect}
 use Rattle.model.specs.declared.StockInstance.{StockInstance}
 use Rattle.model.specs.declared.CutInstance.{CutInstance}
 use Rattle.model.specs.Types.{area, noRect, stockRect, stockArea, cutArea}
 use Rattle.model.specs.Split.{splitDirection, splitFreeRect}
 use Rattle.model.specs.Refusal.{mostSide}
-use Rattle.model.specs.Sheet.{GuillotineSheet, PlacedPiece, Insertion, Place, newSheet, bestPlace, splitRects, insertAt, tryInsert, placedArea}
+use Rattle.model.specs.Sheet.{GuillotineSheet, PlacedPiece, Insertion, Place, newSheet, splitRects, insertAt, tryInsert, placedArea}
 use Rattle.model.specs.Plan.{preorder, nodesOf}
 use Rattle.lists.proofs.Perm.{length-perm, swapRemove-out, All, all-map, all-append, all-left, all-right, all-perm}
 use Rattle.lists.proofs.Sums.{sum-append}
 use Rattle.trust.specs.Limits.{mostEdge, mostArea}
 use Rattle.trust.proofs.Geometry.{Within}
-use Rattle.trust.proofs.Placing.{Good, bestPlace-good}
+use Rattle.trust.proofs.Placing.{Good, at-place}
 use Rattle.trust.proofs.Sheet.{pieceRects, sheetRects, Sound, new-sound, insert-sound, lies-positive, chosen-first}
 use Rattle.trust.proofs.Packing.{packed-area}
 use Rattle.trust.proofs.Sizes.{split-length, FreeCount, insert-free, NodeCount, insert-nodes}
@@ -47,16 +47,6 @@ new-bounded kerf stock r =
       nodes = le-refl 1;
       guide = (record { left = omega arith; top = omega arith; right = omega arith; bottom = omega arith }, tt);
     }
-
--- what holds at the place of an insertion holds of its sheet
-pub at-place : (P : GuillotineSheet → Type 0) (kerf : ℕ) (s : GuillotineSheet) (i : Insertion) (t : GuillotineSheet) → ((p : Place) → Good s i p → P (insertAt kerf s i p))
-    → tryInsert kerf s i ≡ some t → P t
-unfolding tryInsert
-at-place P kerf s i t f e = go (bestPlace s i) refl e
-  where
-    go : (o : Option Place) → bestPlace s i ≡ o → (o >>= λ p. some (insertAt kerf s i p)) ≡ some t → P t
-    go none g k = absurd (Option·none-ne-some t k)
-    go (some p) g k = subst P (Option·some-injective _ _ k) (f p (bestPlace-good s i p g))
 
 -- the chosen free rectangle lies in the board
 chosen-within : (kerf : ℕ) (s : GuillotineSheet) (i : Insertion) (p : Place) → Good s i p → Sound kerf s → Within (stockRect (s .stock)) (p .freeRect)

@@ -1,10 +1,8 @@
 -- A candidate keeps every board and every panel of the instance exactly once, and its sheets keep whatever an insertion keeps.
-use Prim.Native.Nat.{ℕ, zero, suc, _+_, _<_}
-use native.Mathlib.Omega.{arith}
-use mathlib.Core.Path.{_≡_, refl, sym, ap, ap₂, _∙_, subst}
-use mathlib.Core.Logic.{_⊎_, inl, inr}
-use mathlib.Core.Bool.{Bool, true, false, not, _&&_}
-use mathlib.Core.List.{List, [], _∷_, _++_, map, append-assoc, append-nil, List·Memᴰ, List·Memᴰ·head, List·Memᴰ·tail}
+use Prim.Native.Nat.{ℕ, _+_, _<_}
+use mathlib.Core.Path.{_≡_, refl, sym, ap, _∙_, subst}
+use mathlib.Core.Bool.{Bool, true, false, not}
+use mathlib.Core.List.{List, [], _∷_, _++_, map, append-assoc, append-nil, List·Memᴰ, List·Memᴰ·head}
 use mathlib.Core.Option.{Option, none, some, Option·some-injective, Option·none-ne-some}
 use lib.Dec.{T, T-not, not-T, eqb, eqb→eq, eqb-refl}
 use Rattle.lists.specs.Base.{if_then_else_, _>>=_, _<|>_, retain, foldl, concatMap}
@@ -13,10 +11,12 @@ use Rattle.model.specs.declared.StockInstance.{StockInstance}
 use Rattle.model.specs.declared.CutInstance.{CutInstance}
 use Rattle.model.specs.declared.InstanceKey.{InstanceKey}
 use Rattle.model.specs.Types.{cutKey, sameKey}
-use Rattle.model.specs.Sheet.{GuillotineSheet, PlacedPiece, Insertion, newSheet, tryInsert, makingOf}
-use Rattle.model.specs.Candidate.{Candidate, newCandidate, Taken, insertInBins, takeFirstFittingStock, removeUnusedCut, inBins, onNewBoard, unplaced, firstEnd, placeCutFirstFit, placeCuts, reinsertUnusedFirstFit}
-use Rattle.lists.proofs.Perm.{Perm, done, keep, flip, also, perm-refl, perm-sym, perm-append-left, perm-append-right, perm-append-comm, perm-middle, All, Pairs, all-map, all-append, all-left, all-right, all-perm, pairs-perm, mem-perm}
-use Rattle.trust.proofs.Sheet.{Inserted, tryInsert-inserted}
+use Rattle.model.specs.Sheet.{GuillotineSheet, Insertion, newSheet, tryInsert, makingOf}
+use Rattle.model.specs.Candidate.{Candidate, Taken, insertInBins, takeFirstFittingStock, removeUnusedCut, inBins, onNewBoard, unplaced, firstEnd, placeCutFirstFit, placeCuts, reinsertUnusedFirstFit}
+use Rattle.lists.proofs.Perm.{Perm, keep, flip, also, perm-refl, perm-sym, perm-append-left, perm-append-right, perm-middle, All, Pairs, all-map, all-append, all-left, all-right, all-perm, pairs-perm, mem-perm}
+use Rattle.lists.proofs.Sums.{map-append}
+use Rattle.trust.proofs.Truth.{and-intro, and-split}
+use Rattle.trust.proofs.Sheet.{tryInsert-inserted}
 
 -- the cuts on a sheet, and on all of them
 unfoldable pub cutsOf : GuillotineSheet → List CutInstance
@@ -28,13 +28,9 @@ placedCuts bins = concatMap cutsOf bins
 abbrev pub boardsOf : List GuillotineSheet → List StockInstance
 boardsOf bins = map (λ b. b .stock) bins
 
-cuts-snoc : (is : List Insertion) (i : Insertion) → map (λ (j : Insertion). j .cut) (is ++ (i ∷ [])) ≡ map (λ (j : Insertion). j .cut) is ++ (i .cut ∷ [])
-cuts-snoc [] i = refl
-cuts-snoc (j ∷ is) i = ap {B = List CutInstance} (λ r. j .cut ∷ r) (cuts-snoc is i)
-
 pub inserted-cuts : (kerf : ℕ) (s : GuillotineSheet) (i : Insertion) (t : GuillotineSheet) → tryInsert kerf s i ≡ some t → cutsOf t ≡ cutsOf s ++ (i .cut ∷ [])
 unfolding cutsOf
-inserted-cuts kerf s i t e = ap (map (λ (j : Insertion). j .cut)) (tryInsert-inserted kerf s i t e .grown) ∙ cuts-snoc (makingOf s) i
+inserted-cuts kerf s i t e = ap (map (λ (j : Insertion). j .cut)) (tryInsert-inserted kerf s i t e .grown) ∙ map-append (λ (j : Insertion). j .cut) (makingOf s) (i ∷ [])
 
 -- ---- one cut into the bins
 
@@ -130,10 +126,6 @@ unfolding concatMap
 concatMap-append f [] ys = refl
 concatMap-append f (x ∷ xs) ys = ap (λ r. f x ++ r) (concatMap-append f xs ys) ∙ sym (append-assoc (f x) (concatMap f xs) (concatMap f ys))
 
-pub map-append : {A B : Type 0} (f : A → B) (xs ys : List A) → map f (xs ++ ys) ≡ map f xs ++ map f ys
-map-append f [] ys = refl
-map-append {B} f (x ∷ xs) ys = ap {B = List B} (λ r. f x ∷ r) (map-append f xs ys)
-
 new-cuts : (bins : List GuillotineSheet) (t : Taken) {cut : CutInstance} → cutsOf (t .bin) ≡ cut ∷ [] → placedCuts (bins ++ (t .bin ∷ [])) ≡ placedCuts bins ++ (cut ∷ [])
 unfolding concatMap
 new-cuts bins t e = concatMap-append cutsOf bins (t .bin ∷ []) ∙ ap (λ (r : List CutInstance). placedCuts bins ++ r) (append-nil (cutsOf (t .bin)) ∙ e)
@@ -141,19 +133,13 @@ new-cuts bins t e = concatMap-append cutsOf bins (t .bin ∷ []) ∙ ap (λ (r :
 -- equal keys are one key
 pub sameKey-eq : (a b : InstanceKey) → T (sameKey a b) → a ≡ b
 unfolding sameKey
-sameKey-eq a b h = go (eqb (a .id) (b .id)) (eqb (a .instance) (b .instance)) h (eqb→eq (a .id) (b .id)) (eqb→eq (a .instance) (b .instance))
-  where
-    go : (p q : Bool) → T (p && q) → (T p → a .id ≡ b .id) → (T q → a .instance ≡ b .instance) → a ≡ b
-    go true q t f g = λ k. record { id = f tt k; instance = g t k }
-    go false q t f g = absurd t
+sameKey-eq a b h =
+    let t = and-split (eqb (a .id) (b .id)) (eqb (a .instance) (b .instance)) h in
+    λ k. record { id = eqb→eq (a .id) (b .id) (t .0) k; instance = eqb→eq (a .instance) (b .instance) (t .1) k }
 
 pub sameKey-refl : (a : InstanceKey) → T (sameKey a a)
 unfolding sameKey
-sameKey-refl a = go (eqb (a .id) (a .id)) (eqb (a .instance) (a .instance)) (eqb-refl (a .id)) (eqb-refl (a .instance))
-  where
-    go : (p q : Bool) → T p → T q → T (p && q)
-    go true q t u = u
-    go false q t u = t
+sameKey-refl a = and-intro (eqb (a .id) (a .id)) (eqb (a .instance) (a .instance)) (eqb-refl (a .id)) (eqb-refl (a .instance))
 
 pub differ-sym : (a b : CutInstance) → Differ a b → Differ b a
 differ-sym a b h =

@@ -2,22 +2,23 @@
 use Prim.Native.Nat.{ℕ, zero, suc, _+_, _≤_, _<_}
 use native.Mathlib.Nat.{le-refl}
 use native.Mathlib.Omega.{arith}
-use mathlib.Core.Path.{_≡_, refl, sym, ap, _∙_, subst}
+use mathlib.Core.Path.{_≡_, refl, sym}
 use mathlib.Core.Logic.{_⊎_, inl, inr}
-use mathlib.Core.Bool.{Bool, true, false, not, _&&_, _||_, true≢false}
+use mathlib.Core.Bool.{Bool, true, false, not, _&&_, true≢false}
 use mathlib.Core.List.{List, [], _∷_, _++_, map}
 use mathlib.Core.Option.{Option, none, some, Option·some-ne-none}
 use lib.Dec.{T, eqb}
 use borrow.Author.Tests.{eqb-false, ne-eqb}
-use Rattle.lists.specs.Base.{if_then_else_, _<|>_, any, sortBy, countFrom, range, concatMap}
+use Rattle.lists.specs.Base.{if_then_else_, _<|>_, any, countFrom, range, concatMap}
 use Rattle.model.specs.declared.StockInstance.{StockInstance}
 use Rattle.model.specs.declared.CutInstance.{CutInstance}
 use Rattle.model.specs.declared.InstanceKey.{InstanceKey}
 use Rattle.model.specs.Types.{stockKey, cutKey, sameKey}
 use Rattle.model.specs.Project.{Piece, Project, projectOf, wellFormed}
 use Rattle.model.specs.Refusal.{Check, firstThatApplies, RecordRule, stockRule, cutRule, recordChecks, settingsChecks, wholeChecks, projectChecks, fileChecks, fileRefusal, zeroSide}
-use Rattle.model.specs.Expand.{ProblemInstance, compareStock, stockInstances, cutInstances, expandProject}
-use Rattle.lists.proofs.Perm.{Perm, perm-sym, All, Pairs, all-map, all-append, all-left, all-right, all-perm, pairs-perm, sortBy-perm}
+use Rattle.model.specs.Expand.{compareStock, stockInstances, cutInstances, expandProject}
+use Rattle.lists.proofs.Perm.{perm-sym, All, Pairs, all-map, all-append, all-left, all-right, all-perm, pairs-perm, sortBy-perm}
+use Rattle.trust.proofs.Truth.{or-false-split}
 use Rattle.trust.proofs.Placing.{concatMap-all, map-all}
 use Rattle.trust.proofs.Candidate.{Differ, Distinct}
 use Rattle.trust.proofs.Crossover.{DifferBoards, board-sym}
@@ -43,10 +44,6 @@ none-applies (c ∷ cs) e =
     go : (b : Bool) → _≡_ {A = Option ℕ} (if b then some (c .0) else none) none → b ≡ false
     go true k = absurd (Option·some-ne-none (c .0) k)
     go false k = refl
-
-pub or-false-split : (a b : Bool) → (a || b) ≡ false → (a ≡ false) × (b ≡ false)
-or-false-split true b e = absurd (true≢false e)
-or-false-split false b e = (refl, e)
 
 -- what a rule finds of a record that it does not refuse
 abbrev pub Rule : RecordRule → (Piece → Type 0) → Type 0

@@ -1,14 +1,14 @@
 -- The place that the source takes is a choice of Jylänki's measure, and it takes one wherever a free rectangle holds the piece.
 use Prim.Native.Nat.{ℕ, zero, suc, _≤_, _<_}
 use native.Mathlib.Nat.{le-of-suc-le-suc, not-suc-le-zero}
-use mathlib.Core.Path.{_≡_, refl, sym, ap, _∙_, subst}
+use mathlib.Core.Path.{_≡_, refl, sym, ap, subst}
 use mathlib.Core.Logic.{_⊎_, inl, inr}
 use mathlib.Core.Bool.{Bool, true, false, not, _&&_, _||_}
-use mathlib.Core.List.{List, [], _∷_, _++_, map, List·Memᴰ, List·Memᴰ·head, List·Memᴰ·tail, List·Memᴰ·cases-cons, List·Memᴰ·not-nil}
-use mathlib.Core.Option.{Option, none, some, Option·some-ne-none}
+use mathlib.Core.List.{List, [], _∷_, map, List·Memᴰ, List·Memᴰ·head, List·Memᴰ·tail, List·Memᴰ·cases-cons, List·Memᴰ·not-nil}
+use mathlib.Core.Option.{none, some, Option·some-ne-none}
 use lib.Dec.{T, leb, eqb, le→leb, eqb→eq}
 use lib.ListN.{length, getD}
-use Rattle.lists.specs.Base.{if_then_else_, concatMap, enumerate, enumerateFrom, firstBest}
+use Rattle.lists.specs.Base.{if_then_else_, concatMap, enumerateFrom, firstBest}
 use Rattle.model.specs.declared.PatternDirection.{PatternDirection}
 use Rattle.model.specs.declared.RotationPreference.{RotationPreference}
 use Rattle.model.specs.declared.Rect.{Rect}
@@ -19,8 +19,9 @@ use Rattle.model.specs.Fit.{samePattern, patternMatches, rotatePattern, upright
 use Rattle.model.specs.Sheet.{GuillotineSheet, Insertion, Place, places, scoreLess, bestPlace}
 use Rattle.model.specs.Jylanki.{Measure, Holds, Chosen}
 use Rattle.lists.proofs.Perm.{All, all-left, all-right}
-use Rattle.trust.proofs.Placing.{Lies, upright, turned, Fits, Good, bestPlace-good}
-use Rattle.trust.proofs.Choice.{paperMeasure, paper, bestPlace-least}
+use Rattle.trust.proofs.Truth.{and-intro}
+use Rattle.trust.proofs.Placing.{Lies, upright, turned, Good, bestPlace-good}
+use Rattle.trust.proofs.Choice.{paperMeasure, bestPlace-least}
 
 -- how a cut may lie on a board of a pattern: upright, or turned if that is allowed, its grain legal
 pub Way : CutInstance → PatternDirection → ℕ → ℕ → Type 0
@@ -34,14 +35,9 @@ is-in : {A : Type 0} (P : A → Type 0) (b : Bool) (x : A) → T b → All P (if
 is-in P true x t h = h .0
 is-in P false x t h = absurd t
 
-both : (a b : Bool) → T a → T b → T (a && b)
-both true true s t = tt
-both true false s t = t
-both false b s t = s
-
 -- a pattern and two sides that fit
 fitting : (m : Bool) (a b c d : ℕ) → T m → a ≤ b → c ≤ d → T (m && leb a b && leb c d)
-fitting m a b c d t h k = both (m && leb a b) (leb c d) (both m (leb a b) t (le→leb a b h)) (le→leb c d k)
+fitting m a b c d t h k = and-intro (m && leb a b) (leb c d) (and-intro m (leb a b) t (le→leb a b h)) (le→leb c d k)
 
 module _ (cut : CutInstance) (stock : PatternDirection) (free : Rect) (P : FitResult → Type 0) where
   upright-in : T (patternMatches (cut .pattern) stock) → Holds free (cut .width) (cut .length) → All P (uprightFit cut stock free) → P (uprightResult cut free)
@@ -56,8 +52,8 @@ module _ (cut : CutInstance) (stock : PatternDirection) (free : Rect) (P : FitRe
   rotated-in c m t h k =
       let grain = patternMatches (rotatePattern (cut .pattern)) stock in
       is-in P (rotatedTest cut stock free) (rotatedResult cut free)
-      (both (cut .«can_rotate» && turningMatters cut) (grain && leb (cut .length) (free .width) && leb (cut .width) (free .length))
-      (both (cut .«can_rotate») (turningMatters cut) c m)
+      (and-intro (cut .«can_rotate» && turningMatters cut) (grain && leb (cut .length) (free .width) && leb (cut .width) (free .length))
+      (and-intro (cut .«can_rotate») (turningMatters cut) c m)
       (fitting grain (cut .length) (free .width) (cut .width) (free .length) t (h .0) (h .1))) k
 
   fits-split : (r : RotationPreference) → All P (fitCutInRects cut stock free r) → All P (uprightFit cut stock free) × All P (rotatedFit cut stock free)

@@ -1,22 +1,40 @@
 -- Compaction keeps every board and every panel.
-use Prim.Native.Nat.{ℕ, _<_}
+use Prim.Native.Nat.{ℕ}
 use mathlib.Core.Path.{_≡_, refl, sym, ap, _∙_, subst}
 use mathlib.Core.Bool.{Bool, true, false}
-use mathlib.Core.List.{List, [], _∷_, _++_, map, append-assoc, append-nil, List·Memᴰ, List·Memᴰ·head, List·Memᴰ·tail, Memᴰ·append-left}
-use mathlib.Core.Option.{Option, none, some, Option·getD}
-use lib.Dec.{T, ltb}
-use lib.ListN.{length, getD}
-use Rattle.lists.specs.Base.{if_then_else_, _>>=_, enumerate, firstBest, removeAt, concatMap}
+use mathlib.Core.List.{List, [], _∷_, _++_, append-assoc, append-nil, List·Memᴰ, Memᴰ·append-left}
+use mathlib.Core.Option.{Option, none, some, Option·getD, Option·some-injective}
+use lib.Dec.{ltb}
+use lib.ListN.{length}
+use Rattle.lists.specs.Base.{if_then_else_, enumerate, removeAt, concatMap}
 use Rattle.model.specs.declared.StockInstance.{StockInstance}
 use Rattle.model.specs.declared.CutInstance.{CutInstance}
-use Rattle.model.specs.declared.InstanceKey.{InstanceKey}
-use Rattle.model.specs.Types.{cutKey}
-use Rattle.model.specs.Sheet.{GuillotineSheet, Insertion, newSheet, tryInsert, sheetKeys}
+use Rattle.model.specs.Sheet.{GuillotineSheet, sheetKeys}
 use Rattle.model.specs.Candidate.{Candidate, cutsForKeys, worstBin, compacted, compactWorstBin}
-use Rattle.lists.proofs.Perm.{Perm, keep, flip, also, perm-refl, perm-sym, perm-append-left, perm-append-right, perm-append-comm, perm-middle, All, all-map, all-perm, mem-perm, map-perm, concatMap-perm, removeAt-perm, all-self}
+use Rattle.lists.proofs.Perm.{Perm, also, perm-sym, perm-append-left, perm-append-right, perm-append-comm, perm-middle, all-map, all-perm, mem-perm, map-perm, concatMap-perm, removeAt-perm, all-self}
+use Rattle.trust.proofs.Options.{through}
 use Rattle.trust.proofs.Placing.{At, enumerate-at, firstBest-all}
 use Rattle.trust.proofs.Candidate.{cutsOf, placedCuts, boardsOf, Distinct, Kept}
 use Rattle.trust.proofs.Keys.{cutsForKeys-known, sheetKeys-cuts}
+
+-- what a candidate has, with its worst bin and without, its compaction has
+pub without-worst : (Q : Candidate → Type 0) (cuts : List CutInstance) (c : Candidate) → Q c
+    → ((w : ℕ × GuillotineSheet) (removed : List CutInstance) → worstBin (c .bins) ≡ some w → cutsForKeys cuts (sheetKeys (w .1)) ≡ some removed
+    → Q (record { bins = removeAt (w .0) (c .bins); availableStock = c .availableStock ++ (w .1 .stock ∷ []); unusedCuts = c .unusedCuts ++ removed }))
+    → Q (compactWorstBin cuts c)
+unfolding compactWorstBin compacted
+without-worst Q cuts c k f = go (ltb (length (c .bins)) 2)
+  where
+    from : (o : Option Candidate) → compacted cuts c ≡ o → Q (Option·getD o c)
+    from none e = k
+    from (some d) e =
+        let w = through (worstBin (c .bins)) _ d e in
+        let r = through (cutsForKeys cuts (sheetKeys (w .value .1))) _ d (w .rest) in
+        subst Q (Option·some-injective _ _ (r .rest)) (f (w .value) (r .value) (w .first) (r .first))
+
+    go : (b : Bool) → Q (if b then c else Option·getD (compacted cuts c) c)
+    go true = k
+    go false = from (compacted cuts c) refl
 
 module _ (P : GuillotineSheet → Type 0) (kerf : ℕ) (stock : List StockInstance) (cuts : List CutInstance) (distinct : Distinct cuts) where
   -- the cuts of a bin are panels of the instance, and are found by their keys
@@ -51,22 +69,11 @@ module _ (P : GuillotineSheet → Type 0) (kerf : ℕ) (stock : List StockInstan
       }
 
   pub compact-kept : (c : Candidate) → Kept P kerf stock cuts [] c → Kept P kerf stock cuts [] (compactWorstBin cuts c)
-  unfolding compactWorstBin compacted worstBin
-  compact-kept c k = go (ltb (length (c .bins)) 2) (worstBin (c .bins)) refl
-    where
-      made : Option (ℕ × GuillotineSheet) → Option Candidate
-      made o =
-          o >>= λ w. cutsForKeys cuts (sheetKeys (w .1)) >>= λ removed. some (record {
-            bins = removeAt (w .0) (c .bins);
-            availableStock = c .availableStock ++ (w .1 .stock ∷ []);
-            unusedCuts = c .unusedCuts ++ removed;
-          })
-
-      go : (b : Bool) (o : Option (ℕ × GuillotineSheet)) → worstBin (c .bins) ≡ o → Kept P kerf stock cuts [] (if b then c else Option·getD (made o) c)
-      go true o e = k
-      go false none e = k
-      go false (some w) e =
-          let at : At (w .1) (c .bins) w = firstBest-all (At (w .1) (c .bins)) _ (enumerate (c .bins)) w (enumerate-at (w .1) (c .bins)) e in
-          let rest = removeAt (w .0) (c .bins) in
-          let p : Perm (c .bins) (w .1 ∷ rest) = subst (λ (x : GuillotineSheet). Perm (c .bins) (x ∷ rest)) (at .1) (removeAt-perm (w .1) (c .bins) (w .0) (at .0)) in
-          rw (bin-found c (w .1) rest p k) (compacted-kept c w at k)
+  unfolding worstBin
+  compact-kept c k =
+      without-worst (Kept P kerf stock cuts []) cuts c k λ w removed e f.
+      let at : At (w .1) (c .bins) w = firstBest-all (At (w .1) (c .bins)) _ (enumerate (c .bins)) w (enumerate-at (w .1) (c .bins)) e in
+      let rest = removeAt (w .0) (c .bins) in
+      let p : Perm (c .bins) (w .1 ∷ rest) = subst (λ (x : GuillotineSheet). Perm (c .bins) (x ∷ rest)) (at .1) (removeAt-perm (w .1) (c .bins) (w .0) (at .0)) in
+      let same : cutsOf (w .1) ≡ removed = Option·some-injective _ _ (sym (bin-found c (w .1) rest p k) ∙ f) in
+      subst (λ (l : List CutInstance). Kept P kerf stock cuts [] (record { bins = rest; availableStock = c .availableStock ++ (w .1 .stock ∷ []); unusedCuts = c .unusedCuts ++ l })) same (compacted-kept c w at k)

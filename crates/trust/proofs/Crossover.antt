@@ -2,11 +2,11 @@
 use Prim.Native.Nat.{ℕ}
 use mathlib.Core.Path.{_≡_, refl, sym, ap, _∙_, subst}
 use mathlib.Core.Logic.{_⊎_, inl, inr}
-use mathlib.Core.Bool.{Bool, true, false, not, _&&_, _||_}
-use mathlib.Core.List.{List, [], _∷_, _++_, map, append-nil, append-assoc, List·Memᴰ, List·Memᴰ·head, List·Memᴰ·tail, List·Memᴰ·cases-cons, List·Memᴰ·not-nil, Memᴰ·append-left}
-use mathlib.Core.Option.{Option, none, some, Option·some-injective, Option·none-ne-some}
+use mathlib.Core.Bool.{Bool, true, false, not, _||_}
+use mathlib.Core.List.{List, [], _∷_, _++_, map, append-nil, List·Memᴰ, List·Memᴰ·head, List·Memᴰ·cases-cons, List·Memᴰ·not-nil, Memᴰ·append-left}
+use mathlib.Core.Option.{none, some, Option·some-injective, Option·none-ne-some}
 use lib.Dec.{T, T-not, not-T}
-use Rattle.lists.specs.Base.{if_then_else_, _>>=_, _<|>_, any, retain, find, enumerate, foldOption, removeAt, concatMap}
+use Rattle.lists.specs.Base.{if_then_else_, _<|>_, toList, any, retain, find, enumerate, removeAt, concatMap}
 use Rattle.model.specs.declared.BaselineGuillotineHeuristic.{BaselineGuillotineHeuristic}
 use Rattle.model.specs.declared.StockInstance.{StockInstance}
 use Rattle.model.specs.declared.CutInstance.{CutInstance}
@@ -15,11 +15,12 @@ use Rattle.model.specs.Types.{stockKey, cutKey, sameKey}
 use Rattle.model.specs.Sheet.{GuillotineSheet, Insertion, newSheet, tryInsert, rebuild, sheetKeys, makingOf}
 use Rattle.model.specs.Candidate.{Candidate, containsKey, cutsForKeys}
 use Rattle.model.specs.Expand.{ProblemInstance}
-use Rattle.model.specs.Search.{fullStock, crossoverChild}
-use Rattle.lists.proofs.Perm.{Perm, done, keep, flip, also, perm-refl, perm-sym, perm-append-left, All, Pairs, all-map, all-left, all-right, all-perm, pairs-perm, mem-perm, map-perm, removeAt-perm, in-all, all-self}
-use Rattle.trust.proofs.Placing.{At, enumerate-at}
-use Rattle.trust.proofs.Candidate.{cutsOf, placedCuts, boardsOf, inserted-cuts, Differ, Distinct, differ-sym, sameKey-refl, sameKey-eq, retain-all, Kept}
-use Rattle.trust.proofs.Sheet.{tryInsert-inserted}
+use Rattle.model.specs.Search.{bestDonorBin, fullStock, crossoverChild, childOf}
+use Rattle.lists.proofs.Perm.{Perm, done, keep, flip, also, perm-refl, perm-sym, perm-append-left, All, Pairs, all-map, all-right, pairs-perm, mem-perm, map-perm, removeAt-perm, in-all, all-self}
+use Rattle.trust.proofs.Options.{through, all-some, fold-keeps}
+use Rattle.trust.proofs.Placing.{At, enumerate-at, map-all}
+use Rattle.trust.proofs.Candidate.{cutsOf, placedCuts, Differ, Distinct, differ-sym, sameKey-refl, sameKey-eq, retain-all, Kept}
+use Rattle.trust.proofs.Sheet.{Inserted, all-inserted}
 use Rattle.trust.proofs.Keys.{is-true, is-false, sheetKeys-cuts}
 use Rattle.trust.proofs.Compact.{bin-panels, bin-found}
 
@@ -140,50 +141,63 @@ same-board (x ∷ xs) a b d m n t = go (List·Memᴰ·cases-cons m) (List·Mem�
     go (inr u) (inl f) later = absurd (T-not (sameKey (stockKey x) (stockKey a)) (in-all (DifferBoards x) xs (d .0) u) (subst (λ (y : StockInstance). T (sameKey (stockKey y) (stockKey a))) f flipped))
     go (inr u) (inr v) later = later u v
 
+-- ---- what a child is made of
+
+abbrev pub insertions : BaselineGuillotineHeuristic → List CutInstance → List Insertion
+insertions row cs = map (λ c. record { cut = c; heuristic = row }) cs
+
+cuts-back : (row : BaselineGuillotineHeuristic) (cs : List CutInstance) → map (λ (i : Insertion). i .cut) (insertions row cs) ≡ cs
+cuts-back row [] = refl
+cuts-back row (c ∷ cs) = ap {B = List CutInstance} (λ r. c ∷ r) (cuts-back row cs)
+
+module _ (inst : ProblemInstance) (row : BaselineGuillotineHeuristic) (left : Candidate) where
+  pub record Crossed (donor : GuillotineSheet) (child : Candidate) : Type 0 where
+    pub cuts : List CutInstance
+    pub known : cutsForKeys (inst .cuts) (sheetKeys donor) ≡ some cuts
+    pub bin : GuillotineSheet
+    pub made : rebuild (inst .kerfWidth) (donor .stock) (insertions row cuts) ≡ some bin
+    pub place : ℕ × StockInstance
+    pub found : find (λ s. sameKey (stockKey (s .1)) (stockKey (donor .stock))) (enumerate (fullStock left)) ≡ some place
+    pub is : _≡_ {A = Candidate} (record {
+      bins = bin ∷ [];
+      availableStock = removeAt (place .0) (fullStock left);
+      unusedCuts = retain (λ c. not (containsKey (cutKey c) (sheetKeys donor))) (inst .cuts);
+    }) child
+
+  crossed : (donor : GuillotineSheet) (child : Candidate) → crossoverChild inst row left donor ≡ some child → Crossed donor child
+  unfolding crossoverChild
+  crossed donor child e =
+      let a = through (cutsForKeys (inst .cuts) (sheetKeys donor)) _ child e in
+      let b = through (rebuild (inst .kerfWidth) (donor .stock) (insertions row (a .value))) _ child (a .rest) in
+      let c = through (find (λ s. sameKey (stockKey (s .1)) (stockKey (donor .stock))) (enumerate (fullStock left))) _ child (b .rest) in
+      record { cuts = a .value; known = a .first; bin = b .value; made = b .first; place = c .value; found = c .first; is = Option·some-injective _ _ (c .rest) }
+
+  pub child-all : (Q : Candidate → Type 0) (right : Candidate) → ((donor : GuillotineSheet) (child : Candidate) → bestDonorBin right ≡ some donor → Crossed donor child → Q child)
+      → All Q (toList (childOf inst row left right))
+  unfolding childOf
+  child-all Q right f =
+      all-some Q (childOf inst row left right) λ child e.
+      let d = through (bestDonorBin right) (λ donor. crossoverChild inst row left donor) child e in
+      f (d .value) child (d .first) (crossed (d .value) child (d .rest))
+
 -- ---- the donor's cuts on its board
 
 module _ (P : GuillotineSheet → Type 0) (inst : ProblemInstance) (row : BaselineGuillotineHeuristic) (distinct : Distinct (inst .cuts)) (boards : Pairs DifferBoards (inst .stock))
     (fresh : All (λ s. P (newSheet s)) (inst .stock))
     (keeps : (i : Insertion) (s t : GuillotineSheet) → List·Memᴰ (i .cut) (inst .cuts) → tryInsert (inst .kerfWidth) s i ≡ some t → P s → P t) where
-  abbrev insertions : List CutInstance → List Insertion
-  insertions cs = map (λ c. record { cut = c; heuristic = row }) cs
-
-  record Again (s : GuillotineSheet) (cs : List CutInstance) (t : GuillotineSheet) : Type 0 where
-    board : t .stock ≡ s .stock
-    cuts : cutsOf t ≡ cutsOf s ++ cs
-    sheet : P t
-
-  again : (s : GuillotineSheet) (cs : List CutInstance) (t : GuillotineSheet) → All (λ c. List·Memᴰ c (inst .cuts)) cs → P s
-      → foldOption (tryInsert (inst .kerfWidth)) s (insertions cs) ≡ some t → Again s cs t
-  unfolding foldOption
-  again s [] t m h e =
-      subst (Again s []) (Option·some-injective s t e) (record { board = refl; cuts = sym (append-nil (cutsOf s)); sheet = h })
-  again s (c ∷ cs) t m h e = go (tryInsert (inst .kerfWidth) s i) refl e (λ u. again u cs t (m .1))
-    where
-      i : Insertion
-      i = record { cut = c; heuristic = row }
-
-      go : (o : Option GuillotineSheet) → tryInsert (inst .kerfWidth) s i ≡ o → (o >>= λ u. foldOption (tryInsert (inst .kerfWidth)) u (insertions cs)) ≡ some t
-          → ((u : GuillotineSheet) → P u → foldOption (tryInsert (inst .kerfWidth)) u (insertions cs) ≡ some t → Again u cs t) → Again s (c ∷ cs) t
-      go none f k later = absurd (Option·none-ne-some t k)
-      go (some u) f k later =
-          let a = later u (keeps i s u (m .0) f h) k in
-          record {
-            board = a .board ∙ tryInsert-inserted (inst .kerfWidth) s i u f .sameStock;
-            cuts = a .cuts ∙ ap (λ (x : List CutInstance). x ++ cs) (inserted-cuts (inst .kerfWidth) s i u f) ∙ append-assoc (cutsOf s) (c ∷ []) cs;
-            sheet = a .sheet;
-          }
-
   -- the child, for a donor that is a bin of a candidate which keeps all
   pub child-kept : (left right : Candidate) (donor : GuillotineSheet) (rest : List GuillotineSheet) (child : Candidate) → Perm (right .bins) (donor ∷ rest)
       → Kept P (inst .kerfWidth) (inst .stock) (inst .cuts) [] left → Kept P (inst .kerfWidth) (inst .stock) (inst .cuts) [] right
-      → crossoverChild inst row left donor ≡ some child → Kept P (inst .kerfWidth) (inst .stock) (inst .cuts) [] child
-  unfolding crossoverChild fullStock rebuild newSheet cutsOf makingOf concatMap
-  child-kept left right donor rest child p l r e =
-      go (rebuild (inst .kerfWidth) (donor .stock) (insertions cs)) refl found refl (rw (bin-found P (inst .kerfWidth) (inst .stock) (inst .cuts) distinct right donor rest p r) at e)
+      → Crossed inst row left donor child → Kept P (inst .kerfWidth) (inst .stock) (inst .cuts) [] child
+  unfolding fullStock rebuild newSheet cutsOf makingOf concatMap
+  child-kept left right donor rest child p l r x =
+      subst (Kept P (inst .kerfWidth) (inst .stock) (inst .cuts) []) (x .is) (record { boards = own-boards; panels = own-panels; sheets = (own-sheet, tt) })
     where
       cs : List CutInstance
       cs = cutsOf donor
+
+      w : ℕ × StockInstance
+      w = x .place
 
       panels : Perm (cs ++ (placedCuts rest ++ right .unusedCuts)) (inst .cuts)
       panels = bin-panels P (inst .kerfWidth) (inst .stock) (inst .cuts) distinct right donor rest p r
@@ -191,45 +205,37 @@ module _ (P : GuillotineSheet → Type 0) (inst : ProblemInstance) (row : Baseli
       donorIn : List·Memᴰ (donor .stock) (inst .stock)
       donorIn = mem-perm (r .boards) (Memᴰ·append-left (right .availableStock) (mem-perm (map-perm (λ (b : GuillotineSheet). b .stock) (perm-sym p)) (List·Memᴰ·head refl)))
 
-      kept : (bin : GuillotineSheet) (w : ℕ × StockInstance) → rebuild (inst .kerfWidth) (donor .stock) (insertions (cutsOf donor)) ≡ some bin
-          → find (λ s. sameKey (stockKey (s .1)) (stockKey (donor .stock))) (enumerate (fullStock left)) ≡ some w
-          → Kept P (inst .kerfWidth) (inst .stock) (inst .cuts) [] (record {
-            bins = bin ∷ [];
-            availableStock = removeAt (w .0) (fullStock left);
-            unusedCuts = retain (λ c. not (containsKey (cutKey c) (sheetKeys donor))) (inst .cuts);
-          })
-      kept bin w f g =
-          let known : All (λ c. List·Memᴰ c (inst .cuts)) cs =
-          all-map (λ c. List·Memᴰ c cs) (λ c. List·Memᴰ c (inst .cuts)) (λ c m. mem-perm panels (Memᴰ·append-left _ m)) cs (all-self cs)
-          in
-          let a : Again (newSheet (donor .stock)) cs bin = again (newSheet (donor .stock)) cs bin known (in-all (λ s. P (newSheet s)) (inst .stock) fresh donorIn) f in
+      remade : rebuild (inst .kerfWidth) (donor .stock) (insertions row cs) ≡ some (x .bin)
+      remade =
+          let same : x .cuts ≡ cs = Option·some-injective _ _ (sym (x .known) ∙ bin-found P (inst .kerfWidth) (inst .stock) (inst .cuts) distinct right donor rest p r) in
+          subst (λ (l : List CutInstance). rebuild (inst .kerfWidth) (donor .stock) (insertions row l) ≡ some (x .bin)) same (x .made)
+
+      inserted : Inserted (newSheet (donor .stock)) (insertions row cs) (x .bin)
+      inserted = all-inserted (inst .kerfWidth) (newSheet (donor .stock)) (x .bin) (insertions row cs) remade
+
+      own-boards : Perm (x .bin .stock ∷ removeAt (w .0) (fullStock left)) (inst .stock)
+      own-boards =
           let t = find-all (At (donor .stock) (fullStock left)) (λ s. sameKey (stockKey (s .1)) (stockKey (donor .stock))) (enumerate (fullStock left)) w
-          (enumerate-at (donor .stock) (fullStock left)) g
+          (enumerate-at (donor .stock) (fullStock left)) (x .found)
           in
           let out : Perm (fullStock left) (w .1 ∷ removeAt (w .0) (fullStock left)) =
-          subst (λ (x : StockInstance). Perm (fullStock left) (x ∷ removeAt (w .0) (fullStock left))) (t .0 .1) (removeAt-perm (donor .stock) (fullStock left) (w .0) (t .0 .0))
+          subst (λ (y : StockInstance). Perm (fullStock left) (y ∷ removeAt (w .0) (fullStock left))) (t .0 .1) (removeAt-perm (donor .stock) (fullStock left) (w .0) (t .0 .0))
           in
           let whole : Perm (fullStock left) (inst .stock) = l .boards in
           let one : w .1 ≡ donor .stock = same-board (inst .stock) (w .1) (donor .stock) boards (mem-perm whole (mem-perm (perm-sym out) (List·Memᴰ·head refl))) donorIn (t .1) in
-          let own : cutsOf bin ≡ cs = a .cuts in
-          record {
-            boards =
-                subst (λ (x : StockInstance). Perm (x ∷ removeAt (w .0) (fullStock left)) (inst .stock)) (one ∙ sym (a .board)) (also (perm-sym out) whole);
-            panels =
-                rw (append-nil (cutsOf bin), own, append-nil (retain (λ c. not (containsKey (cutKey c) (sheetKeys donor))) (inst .cuts)), sheetKeys-cuts donor)
-                (others-unused (inst .cuts) cs (placedCuts rest ++ right .unusedCuts) distinct panels);
-            sheets = (a .sheet, tt);
-          }
+          subst (λ (y : StockInstance). Perm (y ∷ removeAt (w .0) (fullStock left)) (inst .stock)) (one ∙ sym (inserted .sameStock)) (also (perm-sym out) whole)
 
-      found : Option (ℕ × StockInstance)
-      found = find (λ s. sameKey (stockKey (s .1)) (stockKey (donor .stock))) (enumerate (fullStock left))
+      own-panels : Perm (placedCuts (x .bin ∷ []) ++ (retain (λ c. not (containsKey (cutKey c) (sheetKeys donor))) (inst .cuts) ++ [])) (inst .cuts)
+      own-panels =
+          let own : cutsOf (x .bin) ≡ cs = ap (map (λ (i : Insertion). i .cut)) (inserted .grown) ∙ cuts-back row cs in
+          rw (append-nil (cutsOf (x .bin)), own, append-nil (retain (λ c. not (containsKey (cutKey c) (sheetKeys donor))) (inst .cuts)), sheetKeys-cuts donor)
+          (others-unused (inst .cuts) cs (placedCuts rest ++ right .unusedCuts) distinct panels)
 
-      go : (o : Option GuillotineSheet) → rebuild (inst .kerfWidth) (donor .stock) (insertions cs) ≡ o → (q : Option (ℕ × StockInstance)) → found ≡ q
-          → (o >>= λ bin. q >>= λ f. some (record {
-            bins = bin ∷ [];
-            availableStock = removeAt (f .0) (fullStock left);
-            unusedCuts = retain (λ c. not (containsKey (cutKey c) (sheetKeys donor))) (inst .cuts);
-          })) ≡ some child → Kept P (inst .kerfWidth) (inst .stock) (inst .cuts) [] child
-      go none f q g k = absurd (Option·none-ne-some child k)
-      go (some bin) f none g k = absurd (Option·none-ne-some child k)
-      go (some bin) f (some w) g k = subst (Kept P (inst .kerfWidth) (inst .stock) (inst .cuts) []) (Option·some-injective _ child k) (kept bin w f g)
+      own-sheet : P (x .bin)
+      own-sheet =
+          let known : All (λ c. List·Memᴰ c (inst .cuts)) cs =
+          all-map (λ c. List·Memᴰ c cs) (λ c. List·Memᴰ c (inst .cuts)) (λ c m. mem-perm panels (Memᴰ·append-left _ m)) cs (all-self cs)
+          in
+          fold-keeps (tryInsert (inst .kerfWidth)) P (λ i. List·Memᴰ (i .cut) (inst .cuts)) keeps (insertions row cs)
+          (map-all (λ c. List·Memᴰ c (inst .cuts)) (λ i. List·Memᴰ (i .cut) (inst .cuts)) _ (λ c m. m) cs known) (newSheet (donor .stock)) (x .bin)
+          (in-all (λ s. P (newSheet s)) (inst .stock) fresh donorIn) remade

@@ -28,7 +28,7 @@ use Rattle.lists.proofs.Perm.{All, all-both, all-left}
 use Rattle.trust.specs.Limits.{mostArea, mostAreas}
 use Rattle.trust.proofs.Geometry.{Positive}
 use Rattle.trust.proofs.Sheet.{pieceRects}
-use Rattle.trust.proofs.Search.{empty-nil, first-of-three}
+use Rattle.trust.proofs.Lists.{empty-nil, first-of-three}
 use Rattle.trust.proofs.Winner.{Admitted}
 use Rattle.trust.proofs.Ranges.{Ranged}
 use Rattle.trust.proofs.Bounded.{Bounded, board-area-most, placed-most}

@@ -3,11 +3,11 @@ use Prim.Native.Nat.{ℕ}
 use native.Mathlib.Omega.{arith}
 use mathlib.Core.Path.{_≡_, refl, sym, ap, subst}
 use mathlib.Core.Bool.{_&&_}
-use mathlib.Core.List.{List, [], _∷_, List·Memᴰ, List·Memᴰ·head, Memᴰ·append-right}
-use mathlib.Core.Option.{Option, none, some, Option·some-injective, Option·none-ne-some}
+use mathlib.Core.List.{List, List·Memᴰ, List·Memᴰ·head, Memᴰ·append-right}
+use mathlib.Core.Option.{some}
 use lib.Dec.{T, eqb}
 use borrow.Author.Tests.{eq-eqb}
-use Rattle.lists.specs.Base.{_>>=_, enumerate, foldOption}
+use Rattle.lists.specs.Base.{enumerate}
 use Rattle.model.specs.declared.Rect.{Rect}
 use Rattle.model.specs.declared.PatternDirection.{PatternDirection}
 use Rattle.model.specs.declared.RotationPreference.{RotationPreference}
@@ -20,12 +20,13 @@ use Rattle.model.specs.Sheet.{GuillotineSheet, PlacedPiece, Insertion, Place, n
 use Rattle.lists.proofs.Perm.{All, all-append}
 use Rattle.trust.specs.PieceRules.{liesAs, isFit}
 use Rattle.trust.proofs.Geometry.{Within}
-use Rattle.trust.proofs.Placing.{Lies, upright, turned, and-split, all-if, firstBest-all, concatMap-all, map-all}
+use Rattle.trust.proofs.Options.{fold-keeps}
+use Rattle.trust.proofs.Placing.{Lies, upright, turned, all-if, firstBest-all, concatMap-all, map-all, at-best}
 use Rattle.trust.proofs.Winner.{Legal}
-use Rattle.trust.proofs.Search.{all-any}
+use Rattle.trust.proofs.Lists.{all-any}
 use Rattle.trust.proofs.Keys.{is-true}
-use Rattle.trust.proofs.Prefilter.{and-intro, any-mem, fits-upright, fits-turned}
-use Rattle.trust.proofs.Truth.{of-true}
+use Rattle.trust.proofs.Prefilter.{any-mem, fits-upright, fits-turned}
+use Rattle.trust.proofs.Truth.{and-split, and-intro, of-true}
 use Rattle.trust.proofs.RoundTrip.{pieceView}
 
 -- ---- a piece is turned only where turning matters
@@ -62,21 +63,12 @@ place-matters sheet i p e =
 abbrev pub PieceMatters : PlacedPiece → Type 0
 PieceMatters p = Matters (p .by .cut) (p .fit)
 
-making-matters : (kerf : ℕ) (s t : GuillotineSheet) (making : List Insertion) → foldOption (tryInsert kerf) s making ≡ some t
-    → All PieceMatters (s .placedPieces) → All PieceMatters (t .placedPieces)
-unfolding foldOption tryInsert insertAt
-making-matters kerf s t [] e h = subst (λ (u : GuillotineSheet). All PieceMatters (u .placedPieces)) (Option·some-injective s t e) h
-making-matters kerf s t (i ∷ making) e h = go (bestPlace s i) refl e (λ u. making-matters kerf u t making)
-  where
-    go : (o : Option Place) → bestPlace s i ≡ o → ((o >>= λ p. some (insertAt kerf s i p)) >>= λ u. foldOption (tryInsert kerf) u making) ≡ some t
-        → ((u : GuillotineSheet) → foldOption (tryInsert kerf) u making ≡ some t → All PieceMatters (u .placedPieces) → All PieceMatters (t .placedPieces))
-        → All PieceMatters (t .placedPieces)
-    go none f k later = absurd (Option·none-ne-some t k)
-    go (some p) f k later = later (insertAt kerf s i p) k (all-append PieceMatters (s .placedPieces) _ h (place-matters s i p f, tt))
-
 pub rebuilt-matters : (kerf : ℕ) (stock : StockInstance) (making : List Insertion) (t : GuillotineSheet) → rebuild kerf stock making ≡ some t → All PieceMatters (t .placedPieces)
-unfolding rebuild newSheet
-rebuilt-matters kerf stock making t e = making-matters kerf (newSheet stock) t making e tt
+unfolding rebuild newSheet insertAt
+rebuilt-matters kerf stock making t e =
+    fold-keeps (tryInsert kerf) (λ s. All PieceMatters (s .placedPieces)) (λ i. Unit {0})
+    (λ i s u any f h. at-best (λ v. All PieceMatters (v .placedPieces)) kerf s i u (λ p b. all-append PieceMatters (s .placedPieces) _ h (place-matters s i p b, tt)) f)
+    making (all-any making) (newSheet stock) t tt e
 
 -- ---- the fit of a piece that lies in the board
 

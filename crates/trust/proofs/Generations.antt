@@ -11,7 +11,7 @@ use Rattle.model.specs.Expand.{ProblemInstance}
 use Rattle.model.specs.Search.{childOf, children, crossoverPopulation, repairPopulation, compactPopulation, survivalGeneration, generation, runGenerations, selectBestValid}
 use Rattle.lists.proofs.Perm.{perm-sym, sortBy-perm, All, all-map, all-append, all-perm}
 use Rattle.trust.proofs.Placing.{firstBest-all, map-all}
-use Rattle.trust.proofs.Search.{retain-sub, all-take}
+use Rattle.trust.proofs.Lists.{retain-sub, all-take}
 
 module _ (Q : Candidate → Type 0) (inst : ProblemInstance) (row : BaselineGuillotineHeuristic)
     (crossed : (left right : Candidate) → Q left → Q right → All Q (toList (childOf inst row left right)))

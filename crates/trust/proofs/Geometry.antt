@@ -1,18 +1,15 @@
 -- Rectangles a kerf apart, inside one another, and what a split and a merge do to that.
-use Prim.Native.Nat.{ℕ, zero, suc, _+_, _-_, _*_, _≤_, _<_}
-use native.Mathlib.Nat.{mul-add, add-mul}
+use Prim.Native.Nat.{ℕ, _+_, _-_, _≤_, _<_}
 use native.Mathlib.Omega.{arith}
-use mathlib.Core.Path.{_≡_, refl, sym, ap, _∙_, subst}
+use mathlib.Core.Path.{_≡_, refl, sym, subst}
 use mathlib.Core.Logic.{_⊎_, inl, inr}
 use mathlib.Core.Bool.{Bool, true, false, _&&_}
-use mathlib.Core.List.{List, [], _∷_, _++_}
-use mathlib.Core.Option.{Option, none, some, Option·some-injective, Option·none-ne-some}
+use mathlib.Core.Option.{none, some, Option·some-injective, Option·none-ne-some}
 use lib.Dec.{T, eqb, eqb→eq}
 use Rattle.lists.specs.Base.{if_then_else_}
 use Rattle.model.specs.declared.Rect.{Rect}
-use Rattle.model.specs.declared.Direction.{Direction}
-use Rattle.model.specs.Types.{area}
 use Rattle.model.specs.Merge.{below, beside, stacked, joined, mergeAdjacentRects}
+use Rattle.trust.proofs.Truth.{and-split}
 
 -- document 01, "a kerf apart": along x or along y, one's start plus its side plus the kerf is at most the other's start
 pub data Apart (kerf : ℕ) (a b : Rect) : Type 0 where
@@ -54,10 +51,6 @@ within-apart q w (beneath h) = beneath (omega arith)
 pub data Joins (kerf : ℕ) (a b m : Rect) : Type 0 where
   down : a .x ≡ b .x → a .width ≡ b .width → a .y + a .length + kerf ≡ b .y → m ≡ stacked kerf a b → Joins kerf a b m
   across : a .y ≡ b .y → a .length ≡ b .length → a .x + a .width + kerf ≡ b .x → m ≡ joined kerf a b → Joins kerf a b m
-
-and-split : (p q : Bool) → T (p && q) → T p × T q
-and-split true q h = (tt, h)
-and-split false q h = absurd h
 
 three : (a b c d e f : ℕ) → T (eqb a b && eqb c d && eqb e f) → (a ≡ b) × (c ≡ d) × (e ≡ f)
 three a b c d e f h =

@@ -3,9 +3,9 @@ use Prim.Native.Nat.{ℕ, zero, suc, _+_, _<_}
 use mathlib.Core.Path.{_≡_, refl, sym, ap, _∙_, subst}
 use mathlib.Core.Bool.{Bool, true, false, _||_, or-assoc, or-false, true≢false}
 use mathlib.Core.List.{List, [], _∷_, _++_, map, List·Memᴰ, List·Memᴰ·head}
-use mathlib.Core.Option.{Option, none, some, Option·some-injective, Option·none-ne-some}
-use lib.ListN.{length, getD}
-use Rattle.lists.specs.Base.{if_then_else_, _>>=_, isSome, foldOption, swapRemove}
+use mathlib.Core.Option.{Option, none, some, Option·some-injective}
+use lib.ListN.{length}
+use Rattle.lists.specs.Base.{if_then_else_, isSome, foldOption, swapRemove}
 use Rattle.model.specs.declared.Rect.{Rect}
 use Rattle.model.specs.declared.StockInstance.{StockInstance}
 use Rattle.model.specs.declared.InstanceKey.{InstanceKey}
@@ -13,13 +13,14 @@ use Rattle.model.specs.Types.{cutKey, noRect, stockRect}
 use Rattle.model.specs.Split.{splitDirection, splitFreeRect}
 use Rattle.model.specs.Merge.{Pair, firstPair, mergesAny, mergeFreeRects, mergeRounds}
 use Rattle.model.specs.Guide.{SliceNode, leaf, free, insertSubtree, replaceFreeLeaf}
-use Rattle.model.specs.Sheet.{GuillotineSheet, PlacedPiece, Insertion, Place, newSheet, bestPlace, splitRects, splitTree, insertAt, tryInsert, rebuild}
+use Rattle.model.specs.Sheet.{GuillotineSheet, PlacedPiece, Insertion, Place, newSheet, splitRects, splitTree, insertAt, tryInsert, rebuild}
 use Rattle.lists.proofs.Perm.{Perm, keep, also, perm-refl, perm-sym, perm-append-left, perm-append-right, perm-append-comm, perm-cancel, mem-perm, swapRemove-out, All}
 use Rattle.trust.specs.GuideRules.{mergedFrom}
-use Rattle.trust.proofs.Geometry.{Positive}
-use Rattle.trust.proofs.Placing.{Good, bestPlace-good}
+use Rattle.lists.proofs.Sums.{map-append}
+use Rattle.trust.proofs.Options.{through}
+use Rattle.trust.proofs.Placing.{Good, bestPlace-good, at-best}
 use Rattle.trust.proofs.Sheet.{lies-positive}
-use Rattle.trust.proofs.Guide.{freeLeaves, pieceLeaves, Replaced, replace-found, replace-present, Subtree, subtree}
+use Rattle.trust.proofs.Guide.{freeLeaves, pieceLeaves, Replaced, grafted, replaced, replace-present, subtree}
 
 abbrev pub pieceEntries : List PlacedPiece → List (Rect × InstanceKey)
 pieceEntries ps = map (λ p. (p .fit .rect, cutKey (p .by .cut))) ps
@@ -32,10 +33,6 @@ pub record GuideLeaves (s : GuillotineSheet) (tree : SliceNode) : Type 0 where
 pub data GuideState (s : GuillotineSheet) : Bool → Type 0 where
   voided : s .slicingTree ≡ none → GuideState s true
   present : (tree : SliceNode) → s .slicingTree ≡ some tree → GuideLeaves s tree → GuideState s false
-
-entries-snoc : (ps : List PlacedPiece) (q : PlacedPiece) → pieceEntries (ps ++ (q ∷ [])) ≡ pieceEntries ps ++ ((q .fit .rect, cutKey (q .by .cut)) ∷ [])
-entries-snoc [] q = refl
-entries-snoc (p ∷ ps) q = ap {B = List (Rect × InstanceKey)} (λ r. (p .fit .rect, cutKey (p .by .cut)) ∷ r) (entries-snoc ps q)
 
 module _ (kerf : ℕ) (s : GuillotineSheet) (i : Insertion) (p : Place) (w : 0 < i .cut .width) (l : 0 < i .cut .length) (g : Good s i p) where
   -- the tree with the insertion's subtree in the place of the free leaf
@@ -63,7 +60,7 @@ module _ (kerf : ℕ) (s : GuillotineSheet) (i : Insertion) (p : Place) (w : 0 <
   pieces-grown : (tree sub tree′ : SliceNode) → GuideLeaves s tree → pieceLeaves sub ≡ (p .fit .rect, cutKey (i .cut)) ∷ [] → Replaced (p .freeRect) sub tree tree′
       → Perm (pieceLeaves tree′) (pieceEntries (s .placedPieces ++ (record { by = i; fit = p .fit } ∷ [])))
   pieces-grown tree sub tree′ h k r =
-      rw (entries-snoc (s .placedPieces) (record { by = i; fit = p .fit }))
+      rw (map-append {B = Rect × InstanceKey} (λ (q : PlacedPiece). (q .fit .rect, cutKey (q .by .cut))) (s .placedPieces) (record { by = i; fit = p .fit } ∷ []))
       (also (subst (λ x. Perm (pieceLeaves tree′) (x ++ pieceLeaves tree)) k (r .pieces))
       (also (keep _ (h .pieces)) (perm-append-comm ((p .fit .rect, cutKey (i .cut)) ∷ []) (pieceEntries (s .placedPieces)))))
 
@@ -79,7 +76,7 @@ module _ (kerf : ℕ) (s : GuillotineSheet) (i : Insertion) (p : Place) (w : 0 <
       let sub = subtree (splitDirection (p .freeRect) (p .fit .rect) (i .heuristic .split)) kerf (p .freeRect) (p .fit .rect) (i .cut) (g .fits .corner) (lies-positive (i .cut) p w l (g .fits .lies)) in
       let there : List·Memᴰ (p .freeRect) (freeLeaves tree) = mem-perm (perm-sym (also (h .waste) out)) (List·Memᴰ·head refl) in
       let found = replace-present tree (p .freeRect) (sub .tree) there in
-      let r = replace-found tree (p .freeRect) (sub .tree) (found .0) (found .1) in
+      let r = replaced (grafted tree (p .freeRect) (sub .tree) (found .0) (found .1)) in
       record {
         tree′ = found .0;
         made = tree-made tree (sub .tree) (found .0) e (sub .made) (found .1);
@@ -134,20 +131,15 @@ module _ (kerf : ℕ) (s : GuillotineSheet) (i : Insertion) (p : Place) (w : 0 <
 
 pub making-guide : (kerf : ℕ) (s t : GuillotineSheet) (making : List Insertion) → All (λ i. (0 < i .cut .width) × (0 < i .cut .length)) making
     → foldOption (tryInsert kerf) s making ≡ some t → (b : Bool) → GuideState s b → GuideState t (b || mergedFrom kerf s making)
-unfolding foldOption tryInsert mergedFrom
+unfolding foldOption mergedFrom
 making-guide kerf s t [] h e b g = subst (λ (x : GuillotineSheet). GuideState x (b || false)) (Option·some-injective s t e) (subst (GuideState s) (sym (or-false b)) g)
-making-guide kerf s t (i ∷ rest) h e b g = go (bestPlace s i) refl e (λ u c. making-guide kerf u t rest (h .1) c)
-  where
-    pick : Option Place → Bool
-    pick o = elim o [ none ↦ mergedFrom kerf s rest | some p ↦ mergesAny kerf (splitRects kerf s i p) || mergedFrom kerf (insertAt kerf s i p) rest ]
-
-    go : (o : Option Place) → bestPlace s i ≡ o → ((o >>= λ p. some (insertAt kerf s i p)) >>= λ u. foldOption (tryInsert kerf) u rest) ≡ some t
-        → ((u : GuillotineSheet) → foldOption (tryInsert kerf) u rest ≡ some t → (c : Bool) → GuideState u c → GuideState t (c || mergedFrom kerf u rest))
-        → GuideState t (b || pick o)
-    go none f k later = absurd (Option·none-ne-some t k)
-    go (some p) f k later =
-        subst (GuideState t) (or-assoc b (mergesAny kerf (splitRects kerf s i p)) (mergedFrom kerf (insertAt kerf s i p) rest))
-        (later (insertAt kerf s i p) k (b || mergesAny kerf (splitRects kerf s i p)) (insert-guide kerf s i p (h .0 .0) (h .0 .1) (bestPlace-good s i p f) b g))
+making-guide kerf s t (i ∷ rest) h e b g =
+    let next = through (tryInsert kerf s i) (λ u. foldOption (tryInsert kerf) u rest) t e in
+    at-best (λ u. foldOption (tryInsert kerf) u rest ≡ some t → GuideState t (b || mergedFrom kerf s (i ∷ rest))) kerf s i (next .value)
+    (λ p f k. rw (mergedFrom, f)
+    (subst (GuideState t) (or-assoc b (mergesAny kerf (splitRects kerf s i p)) (mergedFrom kerf (insertAt kerf s i p) rest))
+    (making-guide kerf (insertAt kerf s i p) t rest (h .1) k (b || mergesAny kerf (splitRects kerf s i p)) (insert-guide kerf s i p (h .0 .0) (h .0 .1) (bestPlace-good s i p f) b g))))
+    (next .first) (next .rest)
 
 -- document 01: the guide is present exactly if the sheet had no merge; its leaves are then exactly the pieces and the waste
 pub guide-present : (kerf : ℕ) (stock : StockInstance) (making : List Insertion) (t : GuillotineSheet)

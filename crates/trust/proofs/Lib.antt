@@ -1,3 +1,6 @@
+pub mod Truth
+pub mod Lists
+pub mod Options
 pub mod Geometry
 pub mod RectLayout
 pub mod Merging
@@ -43,7 +46,6 @@ pub mod Scores
 pub mod FirstChoice
 pub mod PlanFitness
 pub mod Tight
-pub mod Truth
 pub mod Distance
 pub mod OneTree
 pub mod RoundTrip

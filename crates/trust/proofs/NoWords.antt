@@ -25,18 +25,19 @@ use Rattle.model.specs.Expand.{ProblemInstance}
 use Rattle.model.specs.Refusal.{fileRefusal}
 use Rattle.model.specs.Answer.{prefilter}
 use Rattle.lists.proofs.Perm.{Perm, All, Pairs, all-map, in-all}
+use Rattle.lists.proofs.Sums.{map-append}
 use Rattle.trust.specs.Words.{PieceIn, SheetIn, piecesIn, sheetsIn}
 use Rattle.trust.specs.PieceRules.{keysIn, liesOnce, usesBoard, ofItsSize, onRack, liesAs, isFit, isPanel, hasFit, insideBoard, kerfApart, pairwise, pieceRectsIn, PiecesObey, askedBy, PieceRules}
 use Rattle.trust.proofs.Geometry.{Apart, Within}
-use Rattle.trust.proofs.Placing.{Lies, upright, turned, Fits, and-split, fits-all, concatMap-all, map-all}
+use Rattle.trust.proofs.Placing.{Lies, upright, turned, Fits, fits-all, concatMap-all, map-all}
 use Rattle.trust.proofs.Sheet.{pieceRects}
-use Rattle.trust.proofs.Candidate.{Distinct, sameKey-eq, sameKey-refl, map-append}
+use Rattle.trust.proofs.Candidate.{Distinct, sameKey-eq, sameKey-refl}
 use Rattle.trust.proofs.Crossover.{DifferBoards, same-board}
 use Rattle.trust.proofs.Winner.{Legal, Admitted}
 use Rattle.trust.proofs.Checks.{admitted}
 use Rattle.trust.proofs.Prefilter.{Laid, Obeys, no-layout}
 use Rattle.trust.proofs.Distance.{apart-of}
-use Rattle.trust.proofs.Truth.{pairs-each, all-of, pairs-of}
+use Rattle.trust.proofs.Truth.{and-split, pairs-each, all-of, pairs-of}
 use Rattle.trust.proofs.Once.{once-perm, rest-of}
 
 -- ---- tests that are passed

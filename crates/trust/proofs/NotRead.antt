@@ -10,10 +10,9 @@ use lib.Seq.{take-append-le, drop-append-le}
 use Rattle.lists.specs.Base.{countFrom, range}
 use Rattle.model.specs.Plan.{entryOf, sheetPart}
 use Rattle.lists.proofs.Perm.{All}
+use Rattle.trust.proofs.Truth.{and-split, and-intro}
 use Rattle.trust.specs.Words.{word, sheetIn, sheetCount, sheetsIn}
 use Rattle.trust.specs.InLayout.{bodyInLayout, startWord, lengthWord, bodiesFrom, inLayout, InLayout}
-use Rattle.trust.proofs.Placing.{and-split}
-use Rattle.trust.proofs.Prefilter.{and-intro}
 use Rattle.trust.proofs.RoundTrip.{part-there}
 
 -- ---- what the layout says of the contents

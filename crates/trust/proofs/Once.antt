@@ -17,7 +17,7 @@ use Rattle.trust.proofs.Placing.{map-all}
 use Rattle.trust.proofs.Candidate.{Differ, Distinct, differ-sym, sameKey-refl}
 use Rattle.trust.proofs.Keys.{is-true, is-false}
 use Rattle.trust.proofs.Crossover.{retain-perm, retain-none}
-use Rattle.trust.proofs.Search.{FirstOf, all-first}
+use Rattle.trust.proofs.Lists.{FirstOf, all-first}
 
 -- ---- how often a key is there
 

@@ -1,11 +1,11 @@
 -- The place that an insertion finds: a free rectangle at its index, with a legal fit at its corner.
-use Prim.Native.Nat.{ℕ, zero, suc, _+_, _≤_, _<_}
+use Prim.Native.Nat.{ℕ, suc, _+_, _≤_, _<_}
 use native.Mathlib.Omega.{arith}
-use mathlib.Core.Path.{_≡_, refl, sym, ap, _∙_, subst}
-use mathlib.Core.Bool.{Bool, true, false, _&&_, _||_}
+use mathlib.Core.Path.{_≡_, refl, subst}
+use mathlib.Core.Bool.{Bool, true, false, _&&_}
 use mathlib.Core.List.{List, [], _∷_, _++_, map, append-assoc}
-use mathlib.Core.Option.{Option, none, some, Option·some-injective, Option·none-ne-some}
-use lib.Dec.{T, leb, eqb, leb→le}
+use mathlib.Core.Option.{some, Option·some-injective, Option·none-ne-some}
+use lib.Dec.{T, leb, leb→le}
 use lib.ListN.{length, getD, length-append}
 use lib.Seq.{getD-append-seam}
 use Rattle.lists.specs.Base.{if_then_else_, enumerate, enumerateFrom, keepBest, firstBest, concatMap}
@@ -16,8 +16,10 @@ use Rattle.model.specs.declared.PatternDirection.{PatternDirection}
 use Rattle.model.specs.declared.RotationPreference.{RotationPreference}
 use Rattle.model.specs.Types.{rect, noRect}
 use Rattle.model.specs.Fit.{patternMatches, rotatePattern, uprightTest, uprightResult, turningMatters, rotatedTest, rotatedResult, uprightFit, rotatedFit, fitCutInRects}
-use Rattle.model.specs.Sheet.{GuillotineSheet, Insertion, Place, places, bestPlace}
-use Rattle.lists.proofs.Perm.{All, all-append, all-map}
+use Rattle.model.specs.Sheet.{GuillotineSheet, Insertion, Place, places, bestPlace, insertAt, tryInsert}
+use Rattle.lists.proofs.Perm.{All, all-append}
+use Rattle.trust.proofs.Truth.{and-split}
+use Rattle.trust.proofs.Options.{through}
 use Rattle.trust.proofs.RectLayout.{Corner}
 
 -- ---- a fit
@@ -31,10 +33,6 @@ pub record Fits (cut : CutInstance) (stock : PatternDirection) (free : Rect) (f 
   pub corner : Corner free (f .rect)
   pub lies : Lies cut f
   pub grain : T (patternMatches (f .pattern) stock)
-
-pub and-split : (p q : Bool) → T (p && q) → T p × T q
-and-split true q h = (tt, h)
-and-split false q h = absurd h
 
 -- a pattern and two sides that fit
 sides : (m : Bool) (a b c d : ℕ) → T (m && leb a b && leb c d) → T m × (a ≤ b) × (c ≤ d)
@@ -129,3 +127,16 @@ places-good sheet i =
 pub bestPlace-good : (sheet : GuillotineSheet) (i : Insertion) (p : Place) → bestPlace sheet i ≡ some p → Good sheet i p
 unfolding bestPlace
 bestPlace-good sheet i p e = firstBest-all (Good sheet i) _ (places sheet i) p (places-good sheet i) e
+
+-- ---- an insertion
+
+module _ (P : GuillotineSheet → Type 0) (kerf : ℕ) (s : GuillotineSheet) (i : Insertion) (t : GuillotineSheet) where
+  -- what holds at the best place holds of its sheet
+  pub at-best : ((p : Place) → bestPlace s i ≡ some p → P (insertAt kerf s i p)) → tryInsert kerf s i ≡ some t → P t
+  unfolding tryInsert
+  at-best f e =
+      let b = through (bestPlace s i) (λ p. some (insertAt kerf s i p)) t e in
+      subst P (Option·some-injective _ _ (b .rest)) (f (b .value) (b .first))
+
+  pub at-place : ((p : Place) → Good s i p → P (insertAt kerf s i p)) → tryInsert kerf s i ≡ some t → P t
+  at-place f e = at-best (λ p b. f p (bestPlace-good s i p b)) e

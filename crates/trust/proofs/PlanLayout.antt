@@ -18,14 +18,14 @@ use Rattle.model.specs.declared.PatternDirection.{PatternDirection}
 use Rattle.model.specs.Types.{patternCode, directionCode, flagCode, layoutCode}
 use Rattle.model.specs.Guide.{SliceNode, cut, leaf, free, cutPiece}
 use Rattle.model.specs.Sheet.{GuillotineSheet, PlacedPiece}
-use Rattle.model.specs.Plan.{rectWords, pieceWords, nodeWords, preorder, nodesOf, sheetWords, planWords, entryOf, sheetPart}
+use Rattle.model.specs.Plan.{preorder, nodesOf, sheetWords, planWords, entryOf, sheetPart}
+use Rattle.lists.proofs.Sums.{map-append}
 use Rattle.trust.specs.Words.{NodeIn, SheetIn, headSize, pieceSize, wasteSize, nodeSize, sheetIn}
 use Rattle.trust.specs.InLayout.{pieceCodes, nodeCodes, oneTree, sheetCodes, bodyInLayout, startWord, lengthWord, bodiesFrom, inLayout, InLayout}
-use Rattle.trust.proofs.Candidate.{concatMap-append, map-append}
-use Rattle.trust.proofs.Prefilter.{and-intro}
-use Rattle.trust.proofs.Truth.{of-true, map-pass}
+use Rattle.trust.proofs.Candidate.{concatMap-append}
+use Rattle.trust.proofs.Truth.{and-intro, of-true, map-pass}
 use Rattle.trust.proofs.OneTree.{Tree, fork, tip, nodesOfTree, CutsFork, tree-is-one}
-use Rattle.trust.proofs.RoundTrip.{pieceView, nodeView, sheetView, headWords, sheet-parts, pieces-size, waste-size, nodes-size, sheet-read, joined, Entry, bodyStart, entry-of-sheet, contents-inside}
+use Rattle.trust.proofs.RoundTrip.{pieceView, nodeView, sheetView, sheet-length, sheet-read, joined, Entry, bodyStart, entry-of-sheet, contents-inside}
 
 -- ---- codes
 
@@ -91,21 +91,11 @@ sheet-codes s =
     (and-intro ps ns (map-pass pieceCodes pieceView piece-codes (s .placedPieces)) (map-pass nodeCodes nodeView node-codes (nodesOf (s .slicingTree))))
     (tree-codes (s .slicingTree))
 
--- how many words a sheet has
-pub sheet-size : (s : GuillotineSheet)
-    → length (sheetWords s) ≡ headSize + pieceSize * length (s .placedPieces) + wasteSize * length (s .freeRects) + nodeSize * length (nodesOf (s .slicingTree))
-unfolding headWords
-sheet-size s =
-    let p = concatMap pieceWords (s .placedPieces) in
-    let w = concatMap rectWords (s .freeRects) in
-    let n = concatMap nodeWords (nodesOf (s .slicingTree)) in
-    omega (arith, ap length (sheet-parts s), length-append (headWords s) (p ++ (w ++ n)), length-append p (w ++ n), length-append w n, pieces-size s, waste-size s, nodes-size s)
-
 body-in-layout : (s : GuillotineSheet) → T (bodyInLayout (sheetWords s))
 unfolding bodyInLayout sheetWords
 body-in-layout s =
     let size = headSize + pieceSize * length (s .placedPieces) + wasteSize * length (s .freeRects) + nodeSize * length (nodesOf (s .slicingTree)) in
-    let exact : T (eqb (length (sheetWords s)) size) = of-true (eq-eqb (length (sheetWords s)) size (sheet-size s)) in
+    let exact : T (eqb (length (sheetWords s)) size) = of-true (eq-eqb (length (sheetWords s)) size (sheet-length s)) in
     let codes : T (sheetCodes (sheetIn (sheetWords s))) = subst (λ (r : SheetIn). T (sheetCodes r)) (sym (sheet-read s)) (sheet-codes s) in
     and-intro (eqb (length (sheetWords s)) size) (sheetCodes (sheetIn (sheetWords s))) exact codes
 

@@ -2,7 +2,7 @@
 use Prim.Native.Nat.{ℕ, _+_, _*_, _≤_}
 use native.Mathlib.Omega.{arith}
 use mathlib.Core.Path.{_≡_, refl, ap}
-use mathlib.Core.List.{List, [], _∷_, _++_, map}
+use mathlib.Core.List.{List, [], _∷_, map}
 use mathlib.Core.Option.{Option·getD}
 use lib.ListN.{length, length-append}
 use lib.Ieee.{Float}
@@ -12,54 +12,22 @@ use Rattle.model.specs.declared.BaselineGuillotineHeuristic.{BaselineGuillotine
 use Rattle.model.specs.Types.{layoutOf}
 use Rattle.model.specs.Fitness.{fitness, positiveZero, one}
 use Rattle.model.specs.Project.{projectOf}
-use Rattle.model.specs.Guide.{SliceNode, cut, leaf, free, cutPiece}
-use Rattle.model.specs.Sheet.{GuillotineSheet, PlacedPiece}
-use Rattle.model.specs.Plan.{rectWords, pieceWords, nodesOf, nodeWords, sheetWords, contentsFrom, planWords}
+use Rattle.model.specs.Guide.{free}
+use Rattle.model.specs.Sheet.{GuillotineSheet}
+use Rattle.model.specs.Plan.{sheetWords, contentsFrom, planWords}
 use Rattle.model.specs.Answer.{plan, answerWith}
 use Rattle.lists.proofs.Perm.{All, all-map}
-use Rattle.lists.proofs.Sums.{length-map, length-concatMap}
+use Rattle.lists.proofs.Sums.{length-map}
 use Rattle.trust.specs.Limits.{planLimit, mostPlan}
 use Rattle.trust.proofs.Answer.{instanceOf}
 use Rattle.trust.proofs.Sizes.{FreeCount, NodeCount}
 use Rattle.trust.proofs.Ranges.{Byte, Ranged, ranged}
 use Rattle.trust.proofs.Proper.{SheetProper}
 use Rattle.trust.proofs.CandidateSize.{pieceCount, candidate-counts}
+use Rattle.trust.proofs.RoundTrip.{sheet-length, contents-length}
 use Rattle.trust.proofs.Planned.{plan-admitted, Planned, noCuts, searchedFor, planned}
 
--- ---- a sheet's words
-
-piece-length : (p : PlacedPiece) → length (pieceWords p) ≡ 9
-unfolding pieceWords
-piece-length p = refl
-
-node-length : (n : SliceNode) → length (nodeWords n) ≡ 8
-unfolding nodeWords
-node-length (cut c first second) = refl
-node-length (leaf r free) = refl
-node-length (leaf r (cutPiece key)) = refl
-
-pub sheet-length : (s : GuillotineSheet)
-    → length (sheetWords s) ≡ 10 + 9 * length (s .placedPieces) + 4 * length (s .freeRects) + 8 * length (nodesOf (s .slicingTree))
-unfolding sheetWords
-sheet-length s =
-    let pieces = concatMap pieceWords (s .placedPieces) in
-    let waste = concatMap rectWords (s .freeRects) in
-    let nodes = concatMap nodeWords (nodesOf (s .slicingTree)) in
-    omega (
-      arith,
-      length-append (pieces ++ waste) nodes,
-      length-append pieces waste,
-      length-concatMap 9 pieceWords piece-length (s .placedPieces),
-      length-concatMap 4 rectWords (λ r. refl) (s .freeRects),
-      length-concatMap 8 nodeWords node-length (nodesOf (s .slicingTree)),
-    )
-
 -- ---- the plan's
-
-contents-length : (at : ℕ) (bodies : List (List ℕ)) → length (contentsFrom at bodies) ≡ 2 * length bodies
-unfolding contentsFrom
-contents-length at [] = refl
-contents-length at (body ∷ bodies) = omega (arith, contents-length (at + length body) bodies)
 
 abbrev pub Counted : GuillotineSheet → Type 0
 Counted s = FreeCount s × NodeCount s

@@ -5,7 +5,7 @@ use mathlib.Core.Path.{_≡_, refl, sym, ap, _∙_, subst}
 use mathlib.Core.Logic.{inl, inr}
 use mathlib.Core.Bool.{Bool, true, false}
 use mathlib.Core.List.{List, [], _∷_, _++_, map, map-map, List·Memᴰ}
-use mathlib.Core.Option.{Option, none, some, Option·getD}
+use mathlib.Core.Option.{Option·getD}
 use lib.Dec.{T}
 use lib.ListN.{length, drop}
 use Rattle.lists.specs.Base.{if_then_else_, all, isEmpty}
@@ -13,23 +13,23 @@ use Rattle.model.specs.declared.BaselineGuillotineHeuristic.{BaselineGuillotine
 use Rattle.model.specs.declared.LayoutKind.{LayoutKind}
 use Rattle.model.specs.declared.Rect.{Rect}
 use Rattle.model.specs.declared.CutInstance.{CutInstance}
-use Rattle.model.specs.Types.{stockArea, cutKey, layoutOf, effortOf}
+use Rattle.model.specs.Types.{stockArea, cutKey, layoutOf}
 use Rattle.model.specs.Sheet.{GuillotineSheet, PlacedPiece, Insertion, newSheet, makingOf}
 use Rattle.model.specs.Fitness.{fitness, positiveZero, one}
 use Rattle.model.specs.Candidate.{Candidate, hasDuplicateKeys}
 use Rattle.model.specs.Project.{projectOf}
-use Rattle.model.specs.Refusal.{fileRefusal}
-use Rattle.model.specs.Expand.{ProblemInstance, expandProject}
-use Rattle.model.specs.Search.{searchNumbers, heuristicVariants}
+use Rattle.model.specs.Expand.{ProblemInstance}
+use Rattle.model.specs.Search.{heuristicVariants}
 use Rattle.model.specs.Plan.{planWords}
 use Rattle.model.specs.Account.{accountFrom}
-use Rattle.model.specs.Answer.{plan, refused, answer, answerWith, searched, optimized, makings}
+use Rattle.model.specs.Answer.{plan, refused, answer, answerWith, makings}
 use Rattle.model.specs.Outcome.{Outcome, leastWorkspace, searches, cleared, written, tooSmall, outcome}
 use Rattle.lists.proofs.Perm.{All, all-map, all-both, all-right, in-all}
 use Rattle.trust.specs.Words.{PieceIn, sheetsIn}
 use Rattle.trust.specs.InLayout.{InLayout}
 use Rattle.trust.specs.PieceRules.{askedBy, insideBoard, kerfApart, pairwise, pieceRectsIn}
 use Rattle.trust.specs.Trusted.{Made, Each, planMakings, TrustedBy, Trusted}
+use Rattle.trust.proofs.Planned.{plan-admitted, empty-plan}
 use Rattle.trust.proofs.Geometry.{Apart}
 use Rattle.trust.proofs.Placing.{map-all}
 use Rattle.trust.proofs.Sheet.{pieceRects, sheetRects}
@@ -39,7 +39,7 @@ use Rattle.trust.proofs.Guided.{guide-present}
 use Rattle.trust.proofs.Search.{Won}
 use Rattle.trust.proofs.Winner.{SheetOk, Admitted}
 use Rattle.trust.proofs.Checks.{admitted}
-use Rattle.trust.proofs.Answer.{FromWinner, not-refused, same-words, plan-from-winner}
+use Rattle.trust.proofs.Answer.{FromWinner, not-refused, plan-from-winner}
 use Rattle.trust.proofs.Distance.{apart-passed}
 use Rattle.trust.proofs.Truth.{pairs-each, all-passed, pairs-passed}
 use Rattle.trust.proofs.RoundTrip.{pieceView, sheetView, sheets-read}
@@ -102,29 +102,6 @@ module _ (kerf : ℕ) (b : GuillotineSheet) (ok : SheetOk kerf b) where
 each-map : {A B C : Type 0} (R : B → C → Type 0) (f : A → B) (g : A → C) (xs : List A) → All (λ x. R (f x) (g x)) xs → Each R (map f xs) (map g xs)
 each-map R f g [] h = tt
 each-map R f g (x ∷ xs) h = (h .0, each-map R f g xs (h .1))
-
--- an answer that is a plan: no check refuses the file
-plan-admitted : (rows : List BaselineGuillotineHeuristic) (file words : List ℕ) → answerWith rows file ≡ plan words → fileRefusal file ≡ none
-unfolding answerWith
-plan-admitted rows file words e = go (fileRefusal file) refl e
-  where
-    go : (q : Option ℕ) → fileRefusal file ≡ q → (elim q [ some k ↦ refused k | none ↦ optimized rows (projectOf file) (expandProject (projectOf file)) ]) ≡ plan words → fileRefusal file ≡ none
-    go (some k) f h = absurd (not-refused k words h)
-    go none f h = f
-
--- and without cuts it is the plan of no sheets
-empty-plan : (rows : List BaselineGuillotineHeuristic) (file words : List ℕ) → answerWith rows file ≡ plan words → askedBy file .cuts ≡ []
-    → words ≡ planWords (layoutOf (projectOf file .layout)) one []
-unfolding answerWith optimized
-empty-plan rows file words e c =
-    let p = projectOf file in
-    let past : answerWith rows file ≡ optimized rows p (askedBy file) =
-    ap (λ (q : Option ℕ). elim q [ some k ↦ refused k | none ↦ optimized rows p (askedBy file) ]) (plan-admitted rows file words e)
-    in
-    let none-asked : optimized rows p (askedBy file) ≡ plan (planWords (layoutOf (p .layout)) one []) =
-    ap (λ (b : Bool). if b then plan (planWords (layoutOf (p .layout)) one []) else searched rows LayoutKind.Guillotine (askedBy file) (searchNumbers (effortOf (p .effort)))) (ap isEmpty c)
-    in
-    same-words words _ (sym e ∙ past ∙ none-asked)
 
 module _ (rows : List BaselineGuillotineHeuristic) (file : List ℕ) where
   abbrev inst : ProblemInstance

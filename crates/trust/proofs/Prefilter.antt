@@ -1,29 +1,28 @@
 -- At 15 and 16 no layout that obeys the piece rules exists.
-use Prim.Native.Nat.{ℕ, zero, suc, _+_, _*_, _≤_, _<_}
-use native.Mathlib.Nat.{le-refl, le-trans, add-le-add, add-assoc}
+use Prim.Native.Nat.{ℕ, _+_, _≤_}
+use native.Mathlib.Nat.{le-refl}
 use native.Mathlib.Omega.{arith}
-use mathlib.Core.Path.{_≡_, refl, sym, ap, ap₂, _∙_, subst}
+use mathlib.Core.Path.{_≡_, refl, sym, _∙_, subst}
 use mathlib.Core.Logic.{_⊎_, inl, inr}
-use mathlib.Core.Bool.{Bool, true, false, not, _&&_, _||_, true≢false, false≢true}
-use mathlib.Core.List.{List, [], _∷_, _++_, map, List·Memᴰ, List·Memᴰ·head, List·Memᴰ·tail, List·Memᴰ·cases-cons, List·Memᴰ·not-nil, Memᴰ·append-left}
-use mathlib.Core.Option.{Option, none, some, Option·none-ne-some}
-use lib.Dec.{T, leb, ltb, eqb, ltb→lt, le→leb, eqb→eq}
+use mathlib.Core.Bool.{Bool, true, false, not, _&&_, _||_, true≢false}
+use mathlib.Core.List.{List, [], _∷_, _++_, map, List·Memᴰ, List·Memᴰ·cases-cons, List·Memᴰ·not-nil, Memᴰ·append-left}
+use mathlib.Core.Option.{some, Option·none-ne-some}
+use lib.Dec.{T, leb, eqb, le→leb}
 use borrow.Author.Tests.{le-ltb, eqb-true}
-use Rattle.lists.specs.Base.{if_then_else_, _<|>_, sum, any, all, isEmpty, concatMap}
-use Rattle.model.specs.declared.Rect.{Rect}
+use Rattle.lists.specs.Base.{sum, any, all, concatMap}
 use Rattle.model.specs.declared.PatternDirection.{PatternDirection}
-use Rattle.model.specs.declared.RotationPreference.{RotationPreference}
 use Rattle.model.specs.declared.StockInstance.{StockInstance}
 use Rattle.model.specs.declared.CutInstance.{CutInstance}
 use Rattle.model.specs.Types.{area, stockRect, stockArea, cutArea, patternCode}
-use Rattle.model.specs.Fit.{samePattern, patternMatches, rotatePattern, uprightTest, uprightResult, turningMatters, rotatedTest, rotatedResult, uprightFit, rotatedFit, fitCutInRects, cutFitsStock}
-use Rattle.model.specs.Sheet.{PlacedPiece, Insertion}
+use Rattle.model.specs.Fit.{samePattern, patternMatches, rotatePattern, uprightTest, turningMatters, rotatedTest, uprightFit, rotatedFit, fitCutInRects, cutFitsStock}
+use Rattle.model.specs.Sheet.{PlacedPiece}
 use Rattle.model.specs.Expand.{ProblemInstance}
 use Rattle.model.specs.Refusal.{firstThatApplies}
 use Rattle.model.specs.Answer.{prefilter}
-use Rattle.lists.proofs.Perm.{Perm, All, Pairs, all-map, all-both, all-append, all-left, all-perm, mem-perm, sum-perm, all-self}
+use Rattle.lists.proofs.Perm.{Perm, All, Pairs, all-map, all-append, all-perm, mem-perm, sum-perm, all-self}
+use Rattle.trust.proofs.Truth.{and-intro}
 use Rattle.trust.proofs.Geometry.{Apart, Within}
-use Rattle.trust.proofs.Placing.{Lies, upright, turned, concatMap-all, map-all}
+use Rattle.trust.proofs.Placing.{Lies, upright, turned, map-all}
 use Rattle.trust.proofs.Sheet.{pieceRects}
 use Rattle.trust.proofs.Keys.{is-true}
 use Rattle.trust.proofs.Choice.{lies-area}
@@ -85,10 +84,6 @@ enough-area inst sheets o =
     )
 
 -- ---- 15: a piece that lies on a board fits it
-
-pub and-intro : (p q : Bool) → T p → T q → T (p && q)
-and-intro true q t u = u
-and-intro false q t u = t
 
 pub fits-upright : (c : CutInstance) (s : StockInstance) → T (patternMatches (c .pattern) (s .pattern)) → c .width ≤ s .width → c .length ≤ s .length → T (uprightTest c (s .pattern) (stockRect s))
 unfolding uprightTest

@@ -18,8 +18,9 @@ use Rattle.model.specs.Refusal.{RecordRule, mostSide, mostInstances, totalQuant
 use Rattle.model.specs.Expand.{ProblemInstance, compareStock, stockInstances, cutInstances, expandProject}
 use Rattle.lists.proofs.Perm.{perm-sym, length-perm, sortBy-perm, All, all-map, all-both, all-left, all-right, all-perm}
 use Rattle.lists.proofs.Sums.{length-map, length-countFrom, length-counted}
+use Rattle.trust.proofs.Truth.{or-false-split}
 use Rattle.trust.proofs.Placing.{concatMap-all, map-all}
-use Rattle.trust.proofs.Checks.{rows, Passed, or-false-split, Rule, records, nonzero, all-map-any, file-passed}
+use Rattle.trust.proofs.Checks.{rows, Passed, Rule, records, nonzero, all-map-any, file-passed}
 
 -- ---- the record
 

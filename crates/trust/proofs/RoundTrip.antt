@@ -18,7 +18,8 @@ use Rattle.model.specs.Types.{stockKey, cutKey, patternCode, layoutCode, direct
 use Rattle.model.specs.Guide.{SliceNode, cut, leaf, free, cutPiece}
 use Rattle.model.specs.Sheet.{GuillotineSheet, PlacedPiece}
 use Rattle.model.specs.Plan.{words64, rectWords, pieceWords, nodesOf, nodeWords, useOf, sawOf, sheetWords, contentsFrom, planWords, entryOf, partOf, sheetPart}
-use Rattle.trust.proofs.Candidate.{concatMap-append, map-append}
+use Rattle.lists.proofs.Sums.{length-concatMap, map-append}
+use Rattle.trust.proofs.Candidate.{concatMap-append}
 use Rattle.trust.specs.InLayout.{startWord, lengthWord}
 use Rattle.trust.specs.Words.{PieceIn, NodeIn, SheetIn, rows, headSize, pieceSize, wasteSize, nodeSize, keyAt, rectAt, pieceIn, wasteIn, nodeIn, sheetIn, sheetCount, fitnessBits, layoutWord, sheetsIn}
 
@@ -49,11 +50,6 @@ sheetView s =
 -- ---- rows
 
 module _ {A : Type 0} (f : A → List ℕ) (size : ℕ) (sized : (x : A) → length (f x) ≡ size) where
-  pub length-rows : (xs : List A) → length (concatMap f xs) ≡ size * length xs
-  unfolding concatMap
-  length-rows [] = omega arith
-  length-rows (x ∷ xs) = omega (arith, length-append (f x) (concatMap f xs), sized x, length-rows xs)
-
   rows-written : (xs : List A) (rest : List ℕ) → rows size (length xs) (concatMap f xs ++ rest) ≡ map f xs
   unfolding rows concatMap
   rows-written [] rest = refl
@@ -86,7 +82,7 @@ waste-read : (r : Rect) → wasteIn (rectWords r) ≡ r
 unfolding wasteIn rectAt
 waste-read r = refl
 
-node-size : (n : SliceNode) → length (nodeWords n) ≡ nodeSize
+pub node-size : (n : SliceNode) → length (nodeWords n) ≡ nodeSize
 unfolding nodeWords
 node-size (cut c a b) = refl
 node-size (leaf r (cutPiece k)) = refl
@@ -127,18 +123,34 @@ allWaste s = concatMap rectWords (s .freeRects)
 abbrev allNodes : GuillotineSheet → List ℕ
 allNodes s = concatMap nodeWords (nodesOf (s .slicingTree))
 
-pub sheet-parts : (s : GuillotineSheet) → sheetWords s ≡ headWords s ++ (allPieces s ++ (allWaste s ++ allNodes s))
+sheet-parts : (s : GuillotineSheet) → sheetWords s ≡ headWords s ++ (allPieces s ++ (allWaste s ++ allNodes s))
 unfolding sheetWords headWords
 sheet-parts s = ap (λ (r : List ℕ). headWords s ++ r) (append-assoc (allPieces s) (allWaste s) (allNodes s))
 
-pub pieces-size : (s : GuillotineSheet) → length (allPieces s) ≡ pieceSize * length (s .placedPieces)
-pieces-size s = length-rows pieceWords pieceSize piece-size (s .placedPieces)
+pub pieces-size : (ps : List PlacedPiece) → length (concatMap pieceWords ps) ≡ pieceSize * length ps
+pieces-size ps = omega (arith, length-concatMap pieceSize pieceWords piece-size ps)
 
-pub waste-size : (s : GuillotineSheet) → length (allWaste s) ≡ wasteSize * length (s .freeRects)
-waste-size s = length-rows rectWords wasteSize (λ r. refl) (s .freeRects)
+pub waste-size : (rs : List Rect) → length (concatMap rectWords rs) ≡ wasteSize * length rs
+waste-size rs = omega (arith, length-concatMap wasteSize rectWords (λ r. refl) rs)
 
-pub nodes-size : (s : GuillotineSheet) → length (allNodes s) ≡ nodeSize * length (nodesOf (s .slicingTree))
-nodes-size s = length-rows nodeWords nodeSize node-size (nodesOf (s .slicingTree))
+pub nodes-size : (ns : List SliceNode) → length (concatMap nodeWords ns) ≡ nodeSize * length ns
+nodes-size ns = omega (arith, length-concatMap nodeSize nodeWords node-size ns)
+
+-- how many words a sheet has
+pub sheet-length : (s : GuillotineSheet)
+    → length (sheetWords s) ≡ headSize + pieceSize * length (s .placedPieces) + wasteSize * length (s .freeRects) + nodeSize * length (nodesOf (s .slicingTree))
+unfolding headWords
+sheet-length s =
+    omega (
+      arith,
+      ap length (sheet-parts s),
+      length-append (headWords s) (allPieces s ++ (allWaste s ++ allNodes s)),
+      length-append (allPieces s) (allWaste s ++ allNodes s),
+      length-append (allWaste s) (allNodes s),
+      pieces-size (s .placedPieces),
+      waste-size (s .freeRects),
+      nodes-size (nodesOf (s .slicingTree)),
+    )
 
 -- what is read behind the head
 module _ (s : GuillotineSheet) where
@@ -148,14 +160,14 @@ module _ (s : GuillotineSheet) where
   waste-there : map wasteIn (rows wasteSize (length (s .freeRects)) (drop (headSize + pieceSize * length (s .placedPieces)) body)) ≡ s .freeRects
   unfolding headWords
   waste-there =
-      rw (drop-pieces (headWords s) (allPieces s) (allWaste s ++ allNodes s) (length (s .placedPieces)) refl (pieces-size s))
+      rw (drop-pieces (headWords s) (allPieces s) (allWaste s ++ allNodes s) (length (s .placedPieces)) refl (pieces-size (s .placedPieces)))
       (read-rows rectWords wasteSize (λ r. refl) wasteIn (λ r. r) waste-read (s .freeRects) (allNodes s) ∙ map-id (s .freeRects))
 
   nodes-there : map nodeIn (rows nodeSize (length (nodesOf (s .slicingTree))) (drop (headSize + pieceSize * length (s .placedPieces) + wasteSize * length (s .freeRects)) body))
       ≡ map nodeView (nodesOf (s .slicingTree))
   unfolding headWords
   nodes-there =
-      rw (drop-waste (headWords s) (allPieces s) (allWaste s) (allNodes s) (length (s .placedPieces)) (length (s .freeRects)) refl (pieces-size s) (waste-size s), ← append-nil (allNodes s))
+      rw (drop-waste (headWords s) (allPieces s) (allWaste s) (allNodes s) (length (s .placedPieces)) (length (s .freeRects)) refl (pieces-size (s .placedPieces)) (waste-size (s .freeRects)), ← append-nil (allNodes s))
       (read-rows nodeWords nodeSize node-size nodeIn nodeView node-read (nodesOf (s .slicingTree)) [])
 
   body-read : sheetIn body ≡ sheetView s
@@ -179,12 +191,12 @@ module _ (s : GuillotineSheet) where
 abbrev pub joined : List (List ℕ) → List ℕ
 joined bodies = concatMap (λ b. b) bodies
 
-length-contents : (at : ℕ) (bodies : List (List ℕ)) → length (contentsFrom at bodies) ≡ 2 * length bodies
+pub contents-length : (at : ℕ) (bodies : List (List ℕ)) → length (contentsFrom at bodies) ≡ 2 * length bodies
 unfolding contentsFrom
-length-contents at [] = refl
-length-contents at (b ∷ bodies) = omega (arith, length-contents (at + length b) bodies)
+contents-length at [] = refl
+contents-length at (b ∷ bodies) = omega (arith, contents-length (at + length b) bodies)
 
-contents-append : (at : ℕ) (us vs : List (List ℕ)) → contentsFrom at (us ++ vs) ≡ contentsFrom at us ++ contentsFrom (at + length (joined us)) vs
+pub contents-append : (at : ℕ) (us vs : List (List ℕ)) → contentsFrom at (us ++ vs) ≡ contentsFrom at us ++ contentsFrom (at + length (joined us)) vs
 unfolding contentsFrom concatMap
 contents-append at [] vs = ap (λ (n : ℕ). contentsFrom n vs) (omega arith)
 contents-append at (u ∷ us) vs =
@@ -250,13 +262,13 @@ module _ (head : List ℕ) (us : List (List ℕ)) (b : List ℕ) (vs : List (Lis
       ∙ sym (append-assoc (head ++ contentsFrom at bodies) (joined us) (b ++ (joined vs ++ rest)))
 
   before-length : length before ≡ entryOf (length us)
-  before-length = omega (arith, length-append head (contentsFrom at us), length-contents at us, four)
+  before-length = omega (arith, length-append head (contentsFrom at us), contents-length at us, four)
 
   pre-length : length pre ≡ at + length (joined us)
-  pre-length = omega (arith, length-append (head ++ contentsFrom at bodies) (joined us), length-append head (contentsFrom at bodies), length-contents at bodies, four)
+  pre-length = omega (arith, length-append (head ++ contentsFrom at bodies) (joined us), length-append head (contentsFrom at bodies), contents-length at bodies, four)
 
   size : length (withContents head bodies rest) ≡ at + length (joined bodies ++ rest)
-  size = omega (arith, length-append head (contentsFrom at bodies ++ (joined bodies ++ rest)), length-append (contentsFrom at bodies) (joined bodies ++ rest), length-contents at bodies, four)
+  size = omega (arith, length-append head (contentsFrom at bodies ++ (joined bodies ++ rest)), length-append (contentsFrom at bodies) (joined bodies ++ rest), contents-length at bodies, four)
 
   start-written : getD (withContents head bodies rest) (entryOf (length us)) 0 ≡ at + length (joined us)
   start-written = ap (λ (w : List ℕ). getD w (entryOf (length us)) 0) by-contents ∙ getD-at before _ _ 0 (entryOf (length us)) before-length
@@ -347,7 +359,7 @@ unfolding planWords
 contents-inside layout fitness bins rest =
     let bodies = map sheetWords bins in
     let contents = contentsFrom (entryOf (length bins)) bodies in
-    omega (arith, length-append (contents ++ joined bodies) rest, length-append contents (joined bodies), length-contents (entryOf (length bins)) bodies, length-map bins sheetWords)
+    omega (arith, length-append (contents ++ joined bodies) rest, length-append contents (joined bodies), contents-length (entryOf (length bins)) bodies, length-map bins sheetWords)
 
 -- a function of the numbers of a list that is one of its elements
 numbered : {A B : Type 0} (f : ℕ → B) (g : A → B) (us vs : List A) → ((ps : List A) (x : A) (qs : List A) → ps ++ x ∷ qs ≡ us ++ vs → f (length ps) ≡ g x)

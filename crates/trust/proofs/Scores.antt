@@ -16,8 +16,9 @@ use Rattle.model.specs.Sheet.{GuillotineSheet, PlacedPiece, makingOf, sheetKeys
 use Rattle.model.specs.Fitness.{usedStockArea, fitness}
 use Rattle.model.specs.Candidate.{Candidate, CandidateScore, containsKey, placedCutKeys, cutsForKeys, hasDuplicateKeys, isValid, score}
 use Rattle.model.specs.Expand.{ProblemInstance}
-use Rattle.lists.proofs.Perm.{Pairs, pairs-perm, perm-sym, all-left, All, all-map, mem-perm, all-self}
+use Rattle.lists.proofs.Perm.{pairs-perm, perm-sym, All, all-map, mem-perm, all-self}
 use Rattle.lists.proofs.Sums.{map-append, sum-append}
+use Rattle.trust.proofs.Truth.{pairs-left}
 use Rattle.trust.proofs.Candidate.{cutsOf, placedCuts, Differ, Distinct, differ-sym}
 use Rattle.trust.proofs.Keys.{is-false, cutsForKeys-known, sheetKeys-cuts}
 use Rattle.trust.proofs.Crossover.{keys-out}
@@ -28,7 +29,7 @@ use Rattle.trust.proofs.Proper.{SheetProper, CandidateProper}
 
 -- ---- the cuts of the pieces, by their keys
 
-placed-keys : (bins : List GuillotineSheet) → placedCutKeys bins ≡ map cutKey (placedCuts bins)
+pub placed-keys : (bins : List GuillotineSheet) → placedCutKeys bins ≡ map cutKey (placedCuts bins)
 unfolding placedCutKeys concatMap
 placed-keys [] = refl
 placed-keys (b ∷ bins) =
@@ -50,7 +51,7 @@ unfolding sum
 pieces-area board [] h = refl
 pieces-area board (p ∷ ps) h = omega (arith, lies-area (p .by .cut) (p .fit) (h .0 .lies), pieces-area board ps (h .1))
 
-sheet-area : (kerf : ℕ) (s : GuillotineSheet) → SheetProper kerf s → sum (map cutArea (cutsOf s)) ≡ placedArea s
+pub sheet-area : (kerf : ℕ) (s : GuillotineSheet) → SheetProper kerf s → sum (map cutArea (cutsOf s)) ≡ placedArea s
 unfolding cutsOf makingOf placedArea
 sheet-area kerf s h = pieces-area (s .stock .pattern) (s .placedPieces) (h .ok .legal)
 
@@ -99,7 +100,3 @@ valid-is inst c a h =
     both-true : (b : Bool) → (b && true && true) ≡ b
     both-true true = refl
     both-true false = refl
-
-    pairs-left : {A : Type 0} (R : A → A → Type 0) (xs ys : List A) → Pairs R (xs ++ ys) → Pairs R xs
-    pairs-left R [] ys k = tt
-    pairs-left R (x ∷ xs) ys k = (all-left (R x) xs ys (k .0), pairs-left R xs ys (k .1))

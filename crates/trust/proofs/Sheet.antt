@@ -1,24 +1,26 @@
 -- A sheet's layout, from the bare board through every insertion; and that a sheet is rebuilt from its making.
-use Prim.Native.Nat.{ℕ, zero, suc, _+_, _≤_, _<_}
+use Prim.Native.Nat.{ℕ, _+_, _<_}
 use native.Mathlib.Omega.{arith}
 use mathlib.Core.Path.{_≡_, refl, sym, ap, _∙_, subst, subst₂}
-use mathlib.Core.List.{List, [], _∷_, _++_, map, append-assoc}
-use mathlib.Core.Option.{Option, none, some, Option·some-injective, Option·none-ne-some}
-use lib.ListN.{length, getD}
+use mathlib.Core.List.{List, [], _∷_, _++_, map, append-nil, append-assoc}
+use mathlib.Core.Option.{Option, some, Option·some-injective}
+use lib.ListN.{length}
 use Rattle.lists.specs.Base.{_>>=_, foldOption, swapRemove}
 use Rattle.model.specs.declared.Rect.{Rect}
 use Rattle.model.specs.declared.Direction.{Direction}
 use Rattle.model.specs.declared.StockInstance.{StockInstance}
 use Rattle.model.specs.declared.CutInstance.{CutInstance}
-use Rattle.model.specs.Types.{area, noRect, stockRect}
+use Rattle.model.specs.Types.{noRect, stockRect}
 use Rattle.model.specs.Split.{splitDirection, splitFreeRect}
-use Rattle.model.specs.Merge.{mergeFreeRects, mergeRounds}
-use Rattle.model.specs.Sheet.{GuillotineSheet, PlacedPiece, Insertion, Place, newSheet, bestPlace, splitRects, insertAt, tryInsert, rebuild, makingOf}
-use Rattle.lists.proofs.Perm.{Perm, keep, flip, also, perm-refl, perm-sym, perm-append-left, perm-append-comm, perm-middle, swapRemove-out, All}
-use Rattle.trust.proofs.Geometry.{Positive, Within}
-use Rattle.trust.proofs.RectLayout.{Layout, layout-perm, layout-replace, Corner, split-layout}
+use Rattle.model.specs.Merge.{mergeFreeRects}
+use Rattle.model.specs.Sheet.{GuillotineSheet, PlacedPiece, Insertion, Place, newSheet, splitRects, insertAt, tryInsert, rebuild, makingOf}
+use Rattle.lists.proofs.Perm.{Perm, keep, also, perm-sym, perm-append-left, perm-append-comm, perm-middle, swapRemove-out}
+use Rattle.lists.proofs.Sums.{map-append}
+use Rattle.trust.proofs.Options.{through, fold-append}
+use Rattle.trust.proofs.Geometry.{Positive}
+use Rattle.trust.proofs.RectLayout.{Layout, layout-perm, layout-replace, split-layout}
 use Rattle.trust.proofs.Merging.{mergeRounds-layout}
-use Rattle.trust.proofs.Placing.{Lies, upright, turned, Fits, Good, bestPlace-good}
+use Rattle.trust.proofs.Placing.{Lies, upright, turned, Good, at-place}
 
 abbrev pub pieceRects : List PlacedPiece → List Rect
 pieceRects ps = map (λ p. p .fit .rect) ps
@@ -46,10 +48,6 @@ new-sound kerf stock w l =
 pub lies-positive : (cut : CutInstance) (p : Place) → 0 < cut .width → 0 < cut .length → Lies cut (p .fit) → Positive (p .fit .rect)
 lies-positive cut p w l (upright a b c d) = record { wide = omega arith; long = omega arith }
 lies-positive cut p w l (turned a b c d e) = record { wide = omega arith; long = omega arith }
-
-pub pieces-append : (ps : List PlacedPiece) (q : PlacedPiece) → pieceRects (ps ++ (q ∷ [])) ≡ pieceRects ps ++ (q .fit .rect ∷ [])
-pieces-append [] q = refl
-pieces-append (p ∷ ps) q = ap {B = List Rect} (λ r. p .fit .rect ∷ r) (pieces-append ps q)
 
 module _ (kerf : ℕ) (s : GuillotineSheet) (i : Insertion) (p : Place) where
   unfoldable pub direction : Direction
@@ -85,49 +83,37 @@ module _ (kerf : ℕ) (s : GuillotineSheet) (i : Insertion) (p : Place) where
       let split : Layout kerf (p .freeRect) (p .fit .rect ∷ new) = split-layout kerf (p .freeRect) (p .fit .rect) (g .fits .corner) pos direction in
       let replaced = layout-replace (p .fit .rect ∷ new) (pieceRects (s .placedPieces) ++ left) split (layout-perm (chosen-first g) h) in
       let ordered = layout-perm in-order replaced in
-      rw (pieces-append (s .placedPieces) (record { by = i; fit = p .fit }))
+      rw (map-append (λ (q : PlacedPiece). q .fit .rect) (s .placedPieces) (record { by = i; fit = p .fit } ∷ []))
       (mergeRounds-layout kerf (stockRect (s .stock)) _ (pieceRects (s .placedPieces) ++ (p .fit .rect ∷ [])) (left ++ new) ordered)
 
 pub tryInsert-sound : (kerf : ℕ) (s : GuillotineSheet) (i : Insertion) (t : GuillotineSheet) → 0 < i .cut .width → 0 < i .cut .length
     → tryInsert kerf s i ≡ some t → Sound kerf s → Sound kerf t
-unfolding tryInsert
-tryInsert-sound kerf s i t w l e h = go (bestPlace s i) refl e
-  where
-    go : (o : Option Place) → bestPlace s i ≡ o → (o >>= λ p. some (insertAt kerf s i p)) ≡ some t → Sound kerf t
-    go none f k = absurd (Option·none-ne-some t k)
-    go (some p) f k = subst (Sound kerf) (Option·some-injective _ _ k) (insert-sound kerf s i p w l (bestPlace-good s i p f) h)
+tryInsert-sound kerf s i t w l e h = at-place (Sound kerf) kerf s i t (λ p g. insert-sound kerf s i p w l g h) e
 
 -- ---- a sheet is rebuilt from its board and its making
 
-pub record Inserted (kerf : ℕ) (s : GuillotineSheet) (i : Insertion) (t : GuillotineSheet) : Type 0 where
+-- t is s with these insertions
+pub record Inserted (s : GuillotineSheet) (is : List Insertion) (t : GuillotineSheet) : Type 0 where
   pub sameStock : t .stock ≡ s .stock
-  pub grown : makingOf t ≡ makingOf s ++ (i ∷ [])
+  pub grown : makingOf t ≡ makingOf s ++ is
 
-making-append : (ps : List PlacedPiece) (q : PlacedPiece) → map (λ (p : PlacedPiece). p .by) (ps ++ (q ∷ [])) ≡ map (λ (p : PlacedPiece). p .by) ps ++ (q .by ∷ [])
-making-append [] q = refl
-making-append (p ∷ ps) q = ap {B = List Insertion} (λ r. p .by ∷ r) (making-append ps q)
+pub tryInsert-inserted : (kerf : ℕ) (s : GuillotineSheet) (i : Insertion) (t : GuillotineSheet) → tryInsert kerf s i ≡ some t → Inserted s (i ∷ []) t
+unfolding insertAt makingOf
+tryInsert-inserted kerf s i t e =
+    at-place (Inserted s (i ∷ [])) kerf s i t
+    (λ p g. record { sameStock = refl; grown = map-append (λ (q : PlacedPiece). q .by) (s .placedPieces) (record { by = i; fit = p .fit } ∷ []) }) e
 
-pub tryInsert-inserted : (kerf : ℕ) (s : GuillotineSheet) (i : Insertion) (t : GuillotineSheet) → tryInsert kerf s i ≡ some t → Inserted kerf s i t
-unfolding tryInsert insertAt makingOf
-tryInsert-inserted kerf s i t e = go (bestPlace s i) e
-  where
-    at : (p : Place) → Inserted kerf s i (insertAt kerf s i p)
-    at p = record { sameStock = refl; grown = making-append (s .placedPieces) (record { by = i; fit = p .fit }) }
-
-    go : (o : Option Place) → (o >>= λ p. some (insertAt kerf s i p)) ≡ some t → Inserted kerf s i t
-    go none k = absurd (Option·none-ne-some t k)
-    go (some p) k = subst (Inserted kerf s i) (Option·some-injective _ _ k) (at p)
-
-foldOption-snoc : {A B : Type 0} (f : B → A → Option B) (b c d : B) (xs : List A) (x : A)
-    → foldOption f b xs ≡ some c → f c x ≡ some d → foldOption f b (xs ++ (x ∷ [])) ≡ some d
+pub all-inserted : (kerf : ℕ) (s t : GuillotineSheet) (is : List Insertion) → foldOption (tryInsert kerf) s is ≡ some t → Inserted s is t
 unfolding foldOption
-foldOption-snoc f b c d [] x e k = rw (Option·some-injective _ _ e, k)
-foldOption-snoc {B} f b c d (y ∷ xs) x e k = go (f b y) e (λ b′ h. foldOption-snoc f b′ c d xs x h k)
-  where
-    go : (o : Option B) → (o >>= λ b′. foldOption f b′ xs) ≡ some c
-        → ((b′ : B) → foldOption f b′ xs ≡ some c → foldOption f b′ (xs ++ (x ∷ [])) ≡ some d) → (o >>= λ b′. foldOption f b′ (xs ++ (x ∷ []))) ≡ some d
-    go none h later = absurd (Option·none-ne-some c h)
-    go (some b′) h later = later b′ h
+all-inserted kerf s t [] e = subst (Inserted s []) (Option·some-injective s t e) (record { sameStock = refl; grown = sym (append-nil (makingOf s)) })
+all-inserted kerf s t (i ∷ is) e =
+    let u = through (tryInsert kerf s i) (λ v. foldOption (tryInsert kerf) v is) t e in
+    let one = tryInsert-inserted kerf s i (u .value) (u .first) in
+    let more = all-inserted kerf (u .value) t is (u .rest) in
+    record {
+      sameStock = more .sameStock ∙ one .sameStock;
+      grown = more .grown ∙ ap (λ (l : List Insertion). l ++ is) (one .grown) ∙ append-assoc (makingOf s) (i ∷ []) is;
+    }
 
 abbrev pub Rebuilt : ℕ → GuillotineSheet → Type 0
 Rebuilt kerf s = rebuild kerf (s .stock) (makingOf s) ≡ some s
@@ -137,8 +123,10 @@ unfolding rebuild newSheet makingOf foldOption
 new-rebuilt kerf stock = refl
 
 pub tryInsert-rebuilt : (kerf : ℕ) (s : GuillotineSheet) (i : Insertion) (t : GuillotineSheet) → tryInsert kerf s i ≡ some t → Rebuilt kerf s → Rebuilt kerf t
-unfolding rebuild
+unfolding rebuild foldOption
 tryInsert-rebuilt kerf s i t e h =
     let n = tryInsert-inserted kerf s i t e in
     subst₂ (λ (stock : StockInstance) (making : List Insertion). foldOption (tryInsert kerf) (newSheet stock) making ≡ some t) (sym (n .sameStock)) (sym (n .grown))
-    (foldOption-snoc (tryInsert kerf) (newSheet (s .stock)) s t (makingOf s) i h e)
+    (fold-append (tryInsert kerf) (newSheet (s .stock)) (makingOf s) (i ∷ [])
+    ∙ ap (λ (o : Option GuillotineSheet). o >>= λ u. foldOption (tryInsert kerf) u (i ∷ [])) h
+    ∙ ap (λ (o : Option GuillotineSheet). o >>= λ u. some u) e)

@@ -1,16 +1,26 @@
--- Tests that are passed, over lists: from what holds of each element to what the test of the whole says, and back.
-use mathlib.Core.Path.{_≡_, sym, subst}
-use mathlib.Core.Bool.{Bool, true}
+-- Tests that are passed, of two and over lists: from what holds of each element to what the test of the whole says, and back.
+use mathlib.Core.Path.{_≡_, refl, sym, subst}
+use mathlib.Core.Bool.{Bool, true, false, _&&_, _||_, true≢false}
 use mathlib.Core.List.{List, [], _∷_, _++_, map}
 use lib.Dec.{T}
 use Rattle.lists.specs.Base.{all}
 use Rattle.lists.proofs.Perm.{All, Pairs, all-map, all-left}
 use Rattle.trust.specs.PieceRules.{pairwise}
-use Rattle.trust.proofs.Placing.{and-split}
-use Rattle.trust.proofs.Prefilter.{and-intro}
 
 pub of-true : {b : Bool} → b ≡ true → T b
 of-true e = subst T (sym e) tt
+
+pub and-intro : (p q : Bool) → T p → T q → T (p && q)
+and-intro true q t u = u
+and-intro false q t u = t
+
+pub and-split : (p q : Bool) → T (p && q) → T p × T q
+and-split true q t = (tt, t)
+and-split false q t = absurd t
+
+pub or-false-split : (p q : Bool) → (p || q) ≡ false → (p ≡ false) × (q ≡ false)
+or-false-split true q e = absurd (true≢false e)
+or-false-split false q e = (refl, e)
 
 pub pairs-left : {A : Type 0} (R : A → A → Type 0) (xs ys : List A) → Pairs R (xs ++ ys) → Pairs R xs
 pairs-left R [] ys h = tt

@@ -1,23 +1,21 @@
 -- What demand 3 asks of a plan, proved of the winner of the definition: boards and panels once, own size, legal grain, inside the board,
 -- a kerf apart, and each sheet the one that its making builds.
 use Prim.Native.Nat.{ℕ, _<_}
-use mathlib.Core.Path.{_≡_, refl, sym, ap, _∙_, subst, subst₂}
-use mathlib.Core.List.{List, [], _∷_, _++_, List·Memᴰ}
-use mathlib.Core.Option.{Option, none, some, Option·some-injective, Option·none-ne-some}
+use mathlib.Core.Path.{_≡_}
+use mathlib.Core.List.{List}
+use mathlib.Core.Option.{some}
 use lib.Dec.{T}
-use Rattle.lists.specs.Base.{_>>=_}
 use Rattle.model.specs.declared.PatternDirection.{PatternDirection}
 use Rattle.model.specs.declared.BaselineGuillotineHeuristic.{BaselineGuillotineHeuristic}
 use Rattle.model.specs.declared.StockInstance.{StockInstance}
-use Rattle.model.specs.declared.CutInstance.{CutInstance}
 use Rattle.model.specs.Fit.{patternMatches}
-use Rattle.model.specs.Sheet.{GuillotineSheet, PlacedPiece, Insertion, Place, newSheet, bestPlace, insertAt, tryInsert}
+use Rattle.model.specs.Sheet.{GuillotineSheet, PlacedPiece, Insertion, newSheet, insertAt, tryInsert}
 use Rattle.model.specs.Candidate.{Candidate}
 use Rattle.model.specs.Expand.{ProblemInstance}
 use Rattle.model.specs.Search.{SearchNumbers, winner}
 use Rattle.lists.proofs.Perm.{All, Pairs, all-append, all-map, in-all}
-use Rattle.trust.proofs.Placing.{Lies, Good, bestPlace-good}
-use Rattle.trust.proofs.Sheet.{Sound, new-sound, insert-sound, tryInsert-sound, Rebuilt, new-rebuilt, tryInsert-rebuilt}
+use Rattle.trust.proofs.Placing.{Lies, at-place}
+use Rattle.trust.proofs.Sheet.{Sound, new-sound, tryInsert-sound, Rebuilt, new-rebuilt, tryInsert-rebuilt}
 use Rattle.trust.proofs.Parts.{PartsOk, new-parts, insert-parts}
 use Rattle.trust.proofs.Candidate.{Distinct}
 use Rattle.trust.proofs.Crossover.{DifferBoards}
@@ -40,25 +38,14 @@ new-ok kerf stock w l = record { layout = new-sound kerf stock w l; rebuilt = ne
 
 pub tryInsert-legal : (kerf : ℕ) (s : GuillotineSheet) (i : Insertion) (t : GuillotineSheet) → tryInsert kerf s i ≡ some t
     → All (Legal (s .stock .pattern)) (s .placedPieces) → All (Legal (t .stock .pattern)) (t .placedPieces)
-unfolding tryInsert insertAt
-tryInsert-legal kerf s i t e h = go (bestPlace s i) refl e
-  where
-    at : (p : Place) → Good s i p → All (Legal (s .stock .pattern)) (s .placedPieces ++ (record { by = i; fit = p .fit } ∷ []))
-    at p g = all-append (Legal (s .stock .pattern)) (s .placedPieces) _ h (record { lies = g .fits .lies; grain = g .fits .grain }, tt)
-
-    go : (o : Option Place) → bestPlace s i ≡ o → (o >>= λ p. some (insertAt kerf s i p)) ≡ some t → All (Legal (t .stock .pattern)) (t .placedPieces)
-    go none f k = absurd (Option·none-ne-some t k)
-    go (some p) f k =
-        subst (λ (u : GuillotineSheet). All (Legal (u .stock .pattern)) (u .placedPieces)) (Option·some-injective _ _ k) (at p (bestPlace-good s i p f))
+unfolding insertAt
+tryInsert-legal kerf s i t e h =
+    at-place (λ u. All (Legal (u .stock .pattern)) (u .placedPieces)) kerf s i t
+    (λ p g. all-append (Legal (s .stock .pattern)) (s .placedPieces) _ h (record { lies = g .fits .lies; grain = g .fits .grain }, tt)) e
 
 pub tryInsert-parts : (kerf : ℕ) (s : GuillotineSheet) (i : Insertion) (t : GuillotineSheet) → 0 < i .cut .width → 0 < i .cut .length
     → tryInsert kerf s i ≡ some t → PartsOk kerf s → PartsOk kerf t
-unfolding tryInsert
-tryInsert-parts kerf s i t w l e h = go (bestPlace s i) refl e
-  where
-    go : (o : Option Place) → bestPlace s i ≡ o → (o >>= λ p. some (insertAt kerf s i p)) ≡ some t → PartsOk kerf t
-    go none f k = absurd (Option·none-ne-some t k)
-    go (some p) f k = subst (PartsOk kerf) (Option·some-injective _ _ k) (insert-parts kerf s i p w l (bestPlace-good s i p f) h)
+tryInsert-parts kerf s i t w l e h = at-place (PartsOk kerf) kerf s i t (λ p g. insert-parts kerf s i p w l g h) e
 
 -- what the checks 6, 9 and 11 leave
 pub record Admitted (inst : ProblemInstance) : Type 0 where

@@ -2,7 +2,7 @@
 use native.Mathlib.Omega.{arith}
 use mathlib.Core.Path.{_≡_, refl, sym, _∙_}
 use Rattle.model.specs.Expand.{ProblemInstance}
-use Rattle.trust.proofs.PlanSize.{sheet-length}
+use Rattle.trust.proofs.RoundTrip.{sheet-length}
 use Rattle.candidate.specs.Stands.{instanceIn, boardIn, binIn}
 use Rattle.sheet_plan.proofs.Making.{bin-board, row-within, row-is}
 use Rattle.sheet_plan.proofs.Turns.{finishable}
