@@ -9,7 +9,7 @@ use optimizer::TimedSheet;
 use std::hint::black_box;
 use std::time::Instant;
 
-extern "C" {
+unsafe extern "C" {
     fn insertion_try_insert(sheet: *mut u32, sheet_len: usize, kerf_width: u32, width: u32, length: u32) -> bool;
 }
 
