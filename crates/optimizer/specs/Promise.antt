@@ -3,9 +3,13 @@ use Prim.Native.Nat.{ℕ}
 use mathlib.Core.Path.{_≡_}
 use mathlib.Core.List.{List, _++_}
 use lib.ListN.{length, drop}
-use Rattle.model.specs.Answer.{plan, refused}
+use Rattle.model.specs.declared.LayoutKind.{LayoutKind}
+use Rattle.model.specs.declared.OptimizerEffort.{OptimizerEffort}
+use Rattle.model.specs.Expand.{ProblemInstance}
+use Rattle.model.specs.Search.{searchNumbers, heuristicVariants}
+use Rattle.model.specs.Answer.{plan, refused, searched}
 use Rattle.model.specs.Answer.{Answer as Answered}
-use Rattle.model.specs.Outcome.{outcome}
+use Rattle.model.specs.Outcome.{leastWorkspace, outcome}
 use Rattle.trust.specs.Trusted.{Trusted}
 use Rattle.optimizer.specs.declared.Answer.{Answer}
 
@@ -25,6 +29,12 @@ EndsIn a (Answer.Refused n) before after = (a ≡ refused n) × (after ≡ befor
 
 pub record Ends (a : Answered) (r : Answer) (before after : List ℕ) : Type 0 where
   pub ends : EndsIn a r before after
+
+-- a search of a project's instances: how it ends, and the words of the workspace that it does not touch
+abbrev pub Searches : ProblemInstance → OptimizerEffort → Answer → (memory memoryAfter words wordsAfter : List ℕ) → Type 0
+Searches inst effort r memory memoryAfter words wordsAfter =
+    Ends (searched heuristicVariants LayoutKind.Guillotine inst (searchNumbers effort)) r memory memoryAfter
+    × (drop leastWorkspace wordsAfter ≡ drop leastWorkspace words)
 
 -- `words` are the workspace's, `memory` the plan's, each before and after the call
 pub record Promise (file words memory : List ℕ) (number : ℕ) (wordsAfter memoryAfter : List ℕ) : Type 0 where

@@ -6,19 +6,17 @@ use refusals::Checked;
 ghost use mathlib.Core.Path.{_≡_};
 ghost use mathlib.Core.Option.{none};
 ghost use Prim.Native.Nat.{_≤_};
-ghost use lib.ListN.{length, drop};
-ghost use Rattle.model.specs.declared.LayoutKind.{LayoutKind};
+ghost use lib.ListN.{length};
 ghost use Rattle.model.specs.Types.{effortOf};
 ghost use Rattle.model.specs.Project.{projectOf};
 ghost use Rattle.model.specs.Refusal.{fileRefusal};
 ghost use Rattle.model.specs.Expand.{expandProject};
-ghost use Rattle.model.specs.Search.{searchNumbers, heuristicVariants};
-ghost use Rattle.model.specs.Answer.{prefilter, searched};
+ghost use Rattle.model.specs.Answer.{prefilter};
 ghost use Rattle.model.specs.Outcome.{leastWorkspace, leastPlan, cleared};
 ghost use Rattle.orders.specs.Rows.{cutWords, cutRow};
 ghost use Rattle.instances.specs.Tables.{Holds};
 ghost use Rattle.candidate.specs.Stands.{instanceIn, Tables};
-ghost use Rattle.optimizer.specs.Promise.{numberOf, Ends, Promise};
+ghost use Rattle.optimizer.specs.Promise.{numberOf, Searches, Promise};
 
 // A plan is in the plan memory; a refusal has document 01's number.
 pub enum Answer {
@@ -56,8 +54,7 @@ fn find_plan(
     effort: OptimizerEffort,
 ) -> Answer
     requires { ⌜ Tables (now stock) (now cuts) inst × (leastWorkspace ≤ length (now workspace)) × (leastPlan ≤ length (now plan)) × (prefilter (instanceIn (now stock) (now cuts) inst) ≡ none) ⌝ }
-    ensures { λ r. ⌜ Ends (searched heuristicVariants LayoutKind.Guillotine (instanceIn (now (stock .entry)) (now (cuts .entry)) inst) (searchNumbers effort)) r (now (plan .entry)) (now (plan .exit))
-        × (drop leastWorkspace (now (workspace .exit)) ≡ drop leastWorkspace (now (workspace .entry))) ⌝ }
+    ensures { λ r. ⌜ Searches (instanceIn (now (stock .entry)) (now (cuts .entry)) inst) effort r (now (plan .entry)) (now (plan .exit)) (now (workspace .entry)) (now (workspace .exit)) ⌝ }
 {
     let mut free = [0u32; FREE];
     let rows = seeds::heuristic_variants();
@@ -81,8 +78,7 @@ fn search_plan(
     effort: OptimizerEffort,
 ) -> Answer
     requires { ⌜ Tables (now stock) (now cuts) inst × (leastWorkspace ≤ length (now workspace)) × (leastPlan ≤ length (now plan)) ⌝ }
-    ensures { λ r. ⌜ Ends (searched heuristicVariants LayoutKind.Guillotine (instanceIn (now (stock .entry)) (now (cuts .entry)) inst) (searchNumbers effort)) r (now (plan .entry)) (now (plan .exit))
-        × (drop leastWorkspace (now (workspace .exit)) ≡ drop leastWorkspace (now (workspace .entry))) ⌝ }
+    ensures { λ r. ⌜ Searches (instanceIn (now (stock .entry)) (now (cuts .entry)) inst) effort r (now (plan .entry)) (now (plan .exit)) (now (workspace .entry)) (now (workspace .exit)) ⌝ }
 {
     let feasible = prefilter::basic_feasibility_prefilter(stock, cuts, inst);
     match feasible {
@@ -100,8 +96,7 @@ fn optimize_cuts(
 ) -> Answer
     requires { ⌜ (fileRefusal (now file) ≡ none) × (leastWorkspace ≤ length (now workspace)) × (leastPlan ≤ length (now plan))
         × Holds cutWords cutRow (expandProject (projectOf (now file)) .cuts) («cut_table» .words) («cut_table» .count) ⌝ }
-    ensures { λ r. ⌜ Ends (searched heuristicVariants LayoutKind.Guillotine (expandProject (projectOf (now (file .entry)))) (searchNumbers (effortOf (projectOf (now (file .entry)) .effort)))) r (now (plan .entry)) (now (plan .exit))
-        × (drop leastWorkspace (now (workspace .exit)) ≡ drop leastWorkspace (now (workspace .entry))) ⌝ }
+    ensures { λ r. ⌜ Searches (expandProject (projectOf (now (file .entry)))) (effortOf (projectOf (now (file .entry)) .effort)) r (now (plan .entry)) (now (plan .exit)) (now (workspace .entry)) (now (workspace .exit)) ⌝ }
 {
     let stock_table = instances::stock_table(file);
     let inst = Instance {
