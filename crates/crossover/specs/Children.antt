@@ -5,8 +5,10 @@ use mathlib.Core.Bool.{true}
 use mathlib.Core.List.{List, []}
 use mathlib.Core.Option.{Option, some}
 use Rattle.lists.specs.Base.{isSome}
+use Rattle.model.specs.declared.BaselineGuillotineHeuristic.{BaselineGuillotineHeuristic}
 use Rattle.model.specs.Candidate.{Candidate}
 use Rattle.model.specs.Expand.{ProblemInstance}
+use Rattle.model.specs.Search.{childOf}
 use Rattle.candidate.specs.declared.Candidate.{Candidate as Words}
 use Rattle.candidate.specs.Moves.{movedUp}
 use Rattle.candidate.specs.Stands.{candidateIn, Stands}
@@ -30,3 +32,7 @@ pub record IsChild (inst : ProblemInstance) (o : Option Candidate) (r : Child) :
   pub found : r .found ≡ isSome o
   pub is : r .found ≡ true → o ≡ some (candidateIn inst (r .candidate))
   pub stands : r .found ≡ true → Stands inst [] (r .candidate)
+
+-- of two parents
+abbrev pub IsChildOf : ProblemInstance → BaselineGuillotineHeuristic → (left right : Words) → Child → Type 0
+IsChildOf inst h left right r = IsChild inst (childOf inst h (candidateIn inst left) (candidateIn inst right)) r

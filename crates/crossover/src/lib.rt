@@ -8,13 +8,12 @@ ghost use Prim.Native.Nat.{_*_, _≤_, _<_};
 ghost use lib.ListN.{length};
 ghost use Rattle.lists.specs.Base.{isSome};
 ghost use Rattle.model.specs.Sheet.{rebuild};
-ghost use Rattle.model.specs.Search.{childOf};
 ghost use Rattle.candidate.specs.Stands.{instanceIn, Tables, boardIn, makingIn, placedWords, candidateIn, Stands};
 ghost use Rattle.placing.specs.Blocks.{behindBlocks};
 ghost use Rattle.placing.specs.Rebuilding.{Rebuildable};
 ghost use Rattle.evaluation.specs.OnSheets.{IsBestDonor};
 ghost use Rattle.donor.specs.Donated.{indexOf};
-ghost use Rattle.crossover.specs.Children.{sheetOf, IsChild};
+ghost use Rattle.crossover.specs.Children.{sheetOf, IsChildOf};
 
 // The child, if there is one.
 pub struct Child {
@@ -68,7 +67,7 @@ fn child_of_sheet(
 ) -> Child
     requires { ⌜ Tables (now stock) (now cuts) inst × Stands (instanceIn (now stock) (now cuts) inst) [] left × Stands (instanceIn (now stock) (now cuts) inst) [] right
         × IsBestDonor (candidateIn (instanceIn (now stock) (now cuts) inst) right .bins) index × (261 * 64 ≤ length (now free)) ⌝ }
-    ensures { λ r. ⌜ IsChild (instanceIn (now (stock .entry)) (now (cuts .entry)) inst) (childOf (instanceIn (now (stock .entry)) (now (cuts .entry)) inst) h (candidateIn (instanceIn (now (stock .entry)) (now (cuts .entry)) inst) left) (candidateIn (instanceIn (now (stock .entry)) (now (cuts .entry)) inst) right)) r
+    ensures { λ r. ⌜ IsChildOf (instanceIn (now (stock .entry)) (now (cuts .entry)) inst) h left right r
         × (behindBlocks (now (free .exit)) ≡ behindBlocks (now (free .entry))) ⌝ }
 {
     let board = right.boards[index];
@@ -98,7 +97,7 @@ pub fn crossover_child_from_donor_bin(
 ) -> Child
     requires { ⌜ Tables (now stock) (now cuts) inst × Stands (instanceIn (now stock) (now cuts) inst) [] left × Stands (instanceIn (now stock) (now cuts) inst) [] right
         × (261 * 64 ≤ length (now free)) ⌝ }
-    ensures { λ r. ⌜ IsChild (instanceIn (now (stock .entry)) (now (cuts .entry)) inst) (childOf (instanceIn (now (stock .entry)) (now (cuts .entry)) inst) h (candidateIn (instanceIn (now (stock .entry)) (now (cuts .entry)) inst) left) (candidateIn (instanceIn (now (stock .entry)) (now (cuts .entry)) inst) right)) r
+    ensures { λ r. ⌜ IsChildOf (instanceIn (now (stock .entry)) (now (cuts .entry)) inst) h left right r
         × (behindBlocks (now (free .exit)) ≡ behindBlocks (now (free .entry))) ⌝ }
 {
     let sheets = right.sheets;
