@@ -16,7 +16,7 @@ ghost use Rattle.candidate.specs.Stands.{instanceIn, Tables, Stands};
 ghost use Rattle.seeds.specs.Rows.{numbersOf, rowsOf, HasRows};
 ghost use Rattle.seeds.specs.Seeds.{placesOf};
 ghost use Rattle.stored.specs.Slots.{slotWords};
-ghost use Rattle.stored.specs.Populations.{populationIn, AllStand, Holds, OnlySlots};
+ghost use Rattle.stored.specs.Populations.{AllStand, Holds, Becomes, OnlySlots};
 ghost use Rattle.placing.specs.Blocks.{behindBlocks};
 ghost use Rattle.placing.specs.Placing.{Leaves};
 ghost use Rattle.population.specs.Improved.{improved, FromSeed, Improves};
@@ -117,7 +117,7 @@ pub fn improve_population(
     h: BaselineGuillotineHeuristic,
 )
     requires { ⌜ Tables (now stock) (now cuts) inst × AllStand (instanceIn (now stock) (now cuts) inst) (now ws) base count × (slotWords * (base + count) ≤ length (now ws)) × (261 * 64 ≤ length (now free)) ⌝ }
-    ensures { λ _. ⌜ Holds (instanceIn (now (stock .entry)) (now (cuts .entry)) inst) (now (ws .exit)) base count (map (improved (instanceIn (now (stock .entry)) (now (cuts .entry)) inst) h) (populationIn (instanceIn (now (stock .entry)) (now (cuts .entry)) inst) (now (ws .entry)) base count))
+    ensures { λ _. ⌜ Becomes (instanceIn (now (stock .entry)) (now (cuts .entry)) inst) (λ i. map (improved i h)) (now (ws .entry)) base count (now (ws .exit)) base count
         × OnlySlots base (base + count) (now (ws .entry)) (now (ws .exit)) × (behindBlocks (now (free .exit)) ≡ behindBlocks (now (free .entry))) ⌝ }
 {
     let mut k: usize = 0;

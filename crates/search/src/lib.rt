@@ -14,7 +14,7 @@ ghost use Rattle.model.specs.Search.{crossoverPopulation, generation, winner};
 ghost use Rattle.candidate.specs.Stands.{instanceIn, Tables};
 ghost use Rattle.seeds.specs.Rows.{numbersOf, rowsOf, HasRows};
 ghost use Rattle.stored.specs.Slots.{slotWords, Storable};
-ghost use Rattle.stored.specs.Populations.{populationIn, AllStand, Holds, OnlySlots};
+ghost use Rattle.stored.specs.Populations.{AllStand, Becomes, OnlySlots};
 ghost use Rattle.placing.specs.Blocks.{behindBlocks};
 ghost use Rattle.survival.specs.Ranks.{Chosen};
 ghost use Rattle.search.specs.Regions.{Region, behindSlots, PushesChild};
@@ -49,7 +49,7 @@ fn crossover_population(
     h: BaselineGuillotineHeuristic,
 ) -> usize
     requires { ⌜ Tables (now stock) (now cuts) inst × AllStand (instanceIn (now stock) (now cuts) inst) (now ws) base count × (count ≤ 32) × (slotWords * (base + 48) ≤ length (now ws)) × (261 * 64 ≤ length (now free)) ⌝ }
-    ensures { λ r. ⌜ Holds (instanceIn (now (stock .entry)) (now (cuts .entry)) inst) (now (ws .exit)) base r (crossoverPopulation (instanceIn (now (stock .entry)) (now (cuts .entry)) inst) h (populationIn (instanceIn (now (stock .entry)) (now (cuts .entry)) inst) (now (ws .entry)) base count))
+    ensures { λ r. ⌜ Becomes (instanceIn (now (stock .entry)) (now (cuts .entry)) inst) (λ i. crossoverPopulation i h) (now (ws .entry)) base count (now (ws .exit)) base r
         × OnlySlots (base + count) (base + 48) (now (ws .entry)) (now (ws .exit)) × (behindBlocks (now (free .exit)) ≡ behindBlocks (now (free .entry))) × (r ≤ 48) ⌝ }
 {
     let mut size = count;
@@ -87,7 +87,7 @@ fn next_generation(
     survivors: usize,
 ) -> usize
     requires { ⌜ Tables (now stock) (now cuts) inst × AllStand (instanceIn (now stock) (now cuts) inst) (now ws) base count × (count ≤ 32) × Region base × (slotWords * 96 ≤ length (now ws)) × (261 * 64 ≤ length (now free)) ⌝ }
-    ensures { λ r. ⌜ Holds (instanceIn (now (stock .entry)) (now (cuts .entry)) inst) (now (ws .exit)) (48 - base) r (generation (instanceIn (now (stock .entry)) (now (cuts .entry)) inst) h survivors (populationIn (instanceIn (now (stock .entry)) (now (cuts .entry)) inst) (now (ws .entry)) base count))
+    ensures { λ r. ⌜ Becomes (instanceIn (now (stock .entry)) (now (cuts .entry)) inst) (λ i. generation i h survivors) (now (ws .entry)) base count (now (ws .exit)) (48 - base) r
         × OnlySlots 0 96 (now (ws .entry)) (now (ws .exit)) × (behindBlocks (now (free .exit)) ≡ behindBlocks (now (free .entry))) ⌝ }
 {
     let size = crossover_population(ws, base, count, free, stock, cuts, inst, h);

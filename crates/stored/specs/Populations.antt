@@ -37,3 +37,7 @@ pub record Holds (inst : ProblemInstance) (ws : List ℕ) (base n : ℕ) (cs : L
 pub record OnlySlots (lo hi : ℕ) (before after : List ℕ) : Type 0 where
   pub low : take (slotWords * lo) after ≡ take (slotWords * lo) before
   pub high : drop (slotWords * hi) after ≡ drop (slotWords * hi) before
+
+-- what a step of the search makes of a population, in its own place or another
+abbrev pub Becomes : ProblemInstance → (ProblemInstance → List Candidate → List Candidate) → (before : List ℕ) (base n : ℕ) (after : List ℕ) (to m : ℕ) → Type 0
+Becomes inst step before base n after to m = Holds inst after to m (step inst (populationIn inst before base n))
