@@ -5,13 +5,14 @@
 
 The gate tries must-fail/ one edit at a time. Here edits of different functions are tried together: a contract does not change when a
 body does, so each edited function is refused by a fact of its own proof or not at all. An edit counts as refused only if an error stands
-in that function's own proof (or in its code, where the proof is made) which is not the echo of another error."""
+in that function's own proof (or in its code, where the proof is made) which is neither the echo of another error nor one of shape alone."""
 import os, re, shutil, subprocess, sys, tempfile, time
 
 ROOT = os.getcwd()
 KIT = os.environ.get("RATTLE_HOME", "/opt/rattle")
 OWN = f"{KIT}/on/{os.uname().machine}"
-ECHO = ("was not admitted", "has no `Need-")
+# Errors that follow from another one, or say only that the code has other calls and operations than the proof names.
+ECHO = ("was not admitted", "`: module `", "has no field", "this pattern needs a function", "expected type `tie.Need-")
 
 
 def crates():
@@ -75,16 +76,23 @@ def touched(crate, edit):
     return names
 
 
+def apply(room, edits):
+    """All edits at their places in the text as it was, since the new text of one may be the old text of another."""
+    pairs = [p for _, ps in edits for p in ps]
+    for file in {f for f, _, _ in pairs}:
+        text = open(f"{room}/{file}").read()
+        for at, old, new in sorted(((text.index(o), o, n) for f, o, n in pairs if f == file), reverse=True):
+            text = text[:at] + new + text[at + len(old):]
+        open(f"{room}/{file}", "w").write(text)
+
+
 def check(crate, deps, edits):
     """The checker's log of a copy of the crate with these edits."""
     room = tempfile.mkdtemp()
     for part in ("src", "specs", "proofs"):
         if os.path.isdir(f"crates/{crate}/{part}"):
             shutil.copytree(f"crates/{crate}/{part}", f"{room}/{part}")
-    for _, pairs in edits:
-        for file, old, new in pairs:
-            text = open(f"{room}/{file}").read()
-            open(f"{room}/{file}", "w").write(text.replace(old, new))
+    apply(room, edits)
     root = next(f"{room}/src/{f}" for f in ("main.rt", "lib.rt") if os.path.exists(f"{room}/src/{f}"))
     words = [f"{OWN}/bin/rattle", "check", "--crate-name", crate, root, "--extern", f"std={OWN}/rlib/std.rlib"]
     for d in deps[crate]:
@@ -101,7 +109,7 @@ def check(crate, deps, edits):
 def own_fault(log, name):
     """An error in a function's own proof that echoes no other."""
     for line in log.split("\n"):
-        mine = re.match(rf"proofs/(\+\w+)*\+?{name}(\+\w+)*/\S+: error", line) or re.match(rf"fn \w+::{name}: no proof: .*does not close", line)
+        mine = re.match(rf"proofs/(\w+/)?(\+\w+)*\+?{name}(\+\w+)*/\S+: error", line) or re.match(rf"fn (\w+::)+{name}: no proof: .*does not close", line)
         if mine and not any(e in line for e in ECHO):
             return line
     return None
