@@ -1,11 +1,8 @@
 -- A file's text, from what the entry answers and leaves.
 use Prim.Native.Nat.{ℕ}
-use mathlib.Core.Path.{_≡_, refl, sym, ap, _∙_}
-use mathlib.Core.Bool.{Bool, true, false}
+use mathlib.Core.Path.{_≡_, sym, ap, _∙_}
 use mathlib.Core.List.{List}
-use lib.Dec.{eqb}
 use lib.ListN.{replicate}
-use Rattle.lists.specs.Base.{if_then_else_}
 use Rattle.model.specs.Outcome.{leastWorkspace, leastPlan}
 use Rattle.optimizer.specs.Promise.{numberOfAnswer, Promise}
 use Rattle.append.specs.Appending.{Appended, Front}

@@ -1,7 +1,4 @@
 // The text of the planner's answer to a project file, as `cutplan` prints it (document 01, "Plan").
-ghost use mathlib.Core.Path.{_≡_};
-ghost use Prim.Native.Nat.{_≤_};
-ghost use lib.ListN.{length};
 ghost use Rattle.append.specs.Appending.{Appended, Front};
 ghost use Rattle.answer_text.specs.Text.{refusalText, fileText};
 

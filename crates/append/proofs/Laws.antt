@@ -1,33 +1,21 @@
 -- The laws of `Appended`: nothing, one byte, one text after another, and what is put into a full buffer. The digits of a number, one more at a time.
 use Prim.Native.Nat.{ℕ, zero, suc, _+_, _-_, _/_, _%_, _≤_, _<_}
-use native.Mathlib.Nat.{mod-eq-of-lt, zero-add, suc-add}
+use native.Mathlib.Nat.{mod-eq-of-lt}
 use native.Mathlib.Numerals.{add-one}
 use native.Mathlib.Omega.{arith}
 use mathlib.Core.Path.{_≡_, refl, sym, ap, _∙_}
 use mathlib.Core.Bool.{Bool, true, false}
 use mathlib.Core.List.{List, [], _∷_, _++_, append-assoc, append-nil}
 use lib.Dec.{ltb}
-use lib.ListN.{length, take, drop, getD, set, length-append, length-take, length-set}
-use lib.Seq.{take-suc, take-all, take-suc-set, drop-set-lt, drop-drop, take-append-le, length-take-le}
+use lib.ListN.{length, take, getD, set, length-append, length-take, length-set}
+use lib.Seq.{take-suc, take-all, take-suc-set, drop-set-lt, take-append-le, length-take-le}
 use Rattle.lists.specs.Base.{if_then_else_, concatMap, countFrom, range}
+use Rattle.lists.proofs.Counts.{counted-split, counted-next}
+use Rattle.lists.proofs.Arrays.{take-cut, drop-later}
 use Rattle.model.specs.FileOf.{bytesOf}
 use Rattle.append.specs.Appending.{Appended, Front}
 use Rattle.append.specs.Numerals.{decimalWithin, decimalOf, hexDigit, hexDigits}
 use borrow.Author.Tests.{lt-ltb, le-ltb, ltb-false}
-
--- ---- lists
-
--- a list cut before more is put behind it, and cut again
-take-cut : (n : ℕ) (l t : List ℕ) → take n (take n l ++ t) ≡ take n (l ++ t)
-take-cut zero l t = refl
-take-cut (suc n) [] t = refl
-take-cut (suc n) (x ∷ l) t = ap (λ (r : List ℕ). x ∷ r) (take-cut n l t)
-
--- what is as found from a place on is as found from a later one on
-drop-later : (l m : List ℕ) (b c : ℕ) → b ≤ c → drop b m ≡ drop b l → drop c m ≡ drop c l
-drop-later l m b c h e =
-    let f : b + (c - b) ≡ c = omega arith in
-    ap (λ (k : ℕ). drop k m) (sym f) ∙ sym (drop-drop (c - b) b m) ∙ ap (drop (c - b)) e ∙ drop-drop (c - b) b l ∙ ap (λ (k : ℕ). drop k l) f
 
 -- ---- Appended
 
@@ -90,32 +78,16 @@ appended-more t i p q h = appended-is (appended-then p q) (sym (ap (λ (k : ℕ)
 -- ---- texts of numbers one after the other, put in by a loop
 
 module _ (f : ℕ → List ℕ) where
-  counted-split : (i n m : ℕ) → concatMap f (countFrom i (n + m)) ≡ concatMap f (countFrom i n) ++ concatMap f (countFrom (i + n) m)
-  unfolding concatMap countFrom
-  counted-split i zero m =
-      let e : i + 0 ≡ i = omega arith in
-      ap (λ (k : ℕ). concatMap f (countFrom i k)) (zero-add m) ∙ ap (λ (k : ℕ). concatMap f (countFrom k m)) (sym e)
-  counted-split i (suc n) m =
-      let e : suc i + n ≡ i + suc n = omega arith in
-      ap (λ (k : ℕ). concatMap f (countFrom i k)) (suc-add n m)
-      ∙ ap (λ (r : List ℕ). f i ++ r) (counted-split (suc i) n m ∙ ap (λ (k : ℕ). concatMap f (countFrom (suc i) n) ++ concatMap f (countFrom k m)) e)
-      ∙ sym (append-assoc (f i) (concatMap f (countFrom (suc i) n)) (concatMap f (countFrom (i + suc n) m)))
-
-  counted-next : (i : ℕ) → concatMap f (range i) ++ f i ≡ concatMap f (range (i + 1))
-  unfolding concatMap countFrom
-  counted-next i =
-      sym (counted-split 0 i 1 ∙ ap (λ (r : List ℕ). concatMap f (range i) ++ r) (append-nil (f (0 + i)) ∙ ap f (zero-add i)))
-
   module _ {l m : List ℕ} {at b : ℕ} (i : ℕ) (p : Appended l at (concatMap f (range i)) m b) where
     pub appended-next : {n : List ℕ} {c : ℕ} → Appended m b (f i) n c → Appended l at (concatMap f (range (i + 1))) n c
-    appended-next q = appended-is (appended-then p q) (counted-next i)
+    appended-next q = appended-is (appended-then p q) (counted-next f i)
 
     -- a full buffer ends the loop early
     pub appended-stop : (n : ℕ) → i ≤ n → b ≡ length m → Appended l at (concatMap f (range n)) m b
     appended-stop n h e =
         let k : i + (n - i) ≡ n = omega arith in
         appended-is (appended-then p (appended-full m (concatMap f (countFrom (0 + i) (n - i))) b e))
-        (sym (counted-split 0 i (n - i)) ∙ ap (λ (j : ℕ). concatMap f (range j)) k)
+        (sym (counted-split f 0 i (n - i)) ∙ ap (λ (j : ℕ). concatMap f (range j)) k)
 
     pub appended-end : (n : ℕ) → i ≤ n → n ≤ i → Appended l at (concatMap f (range n)) m b
     appended-end n h k = let e : i ≡ n = omega arith in appended-is p (ap (λ (j : ℕ). concatMap f (range j)) e)

@@ -1,24 +1,15 @@
 -- The instance that two tables show: its counts, its boards and its cuts by their numbers.
-use Prim.Native.Nat.{ℕ, zero, suc, _+_, _*_, _≤_, _<_}
-use native.Mathlib.Nat.{le-of-suc-le-suc, not-suc-le-zero}
+use Prim.Native.Nat.{ℕ, _+_, _*_, _≤_, _<_}
 use native.Mathlib.Omega.{arith}
-use mathlib.Core.Path.{_≡_, ap, _∙_}
-use mathlib.Core.List.{List, map}
-use lib.ListN.{length, getD}
-use Rattle.lists.specs.Base.{countFrom, range}
+use mathlib.Core.Path.{_≡_, _∙_}
+use mathlib.Core.List.{List}
+use lib.ListN.{length}
+use Rattle.lists.specs.Base.{range}
 use Rattle.lists.proofs.Sums.{length-map, length-countFrom}
+use Rattle.lists.proofs.Counts.{getD-range}
 use Rattle.orders.specs.Rows.{stockWords, cutWords, stockAt, cutAt}
 use Rattle.candidate.specs.declared.Instance.{Instance}
 use Rattle.candidate.specs.Stands.{instanceIn, Tables, noStock, noCut, boardIn, cutIn}
-
-get-count : {A : Type 0} (f : ℕ → A) (d : A) (i n k : ℕ) → k < n → getD (map f (countFrom i n)) k d ≡ f (i + k)
-unfolding countFrom
-get-count f d i zero k h = absurd (not-suc-le-zero h)
-get-count f d i (suc n) zero h = let e : i ≡ i + 0 = omega arith in ap f e
-get-count f d i (suc n) (suc k) h = let e : suc i + k ≡ i + suc k = omega arith in get-count f d (suc i) n k (le-of-suc-le-suc h) ∙ ap f e
-
-pub get-range : {A : Type 0} (f : ℕ → A) (d : A) (n k : ℕ) → k < n → getD (map f (range n)) k d ≡ f k
-get-range f d n k h = let e : 0 + k ≡ k = omega arith in get-count f d 0 n k h ∙ ap f e
 
 module _ (stock cuts : List ℕ) (n : Instance) where
   pub stock-count : length (instanceIn stock cuts n .stock) ≡ n .stock
@@ -35,11 +26,11 @@ module _ (stock cuts : List ℕ) (n : Instance) where
 
   pub board-in : (b : ℕ) → b < n .stock → boardIn (instanceIn stock cuts n) b ≡ stockAt stock b
   unfolding instanceIn boardIn
-  board-in b h = get-range (stockAt stock) noStock (n .stock) b h
+  board-in b h = getD-range (stockAt stock) noStock (n .stock) b h
 
   pub cut-in : (c : ℕ) → c < n .cuts → cutIn (instanceIn stock cuts n) c ≡ cutAt cuts c
   unfolding instanceIn cutIn
-  cut-in c h = get-range (cutAt cuts) noCut (n .cuts) c h
+  cut-in c h = getD-range (cutAt cuts) noCut (n .cuts) c h
 
   -- the row of a board, and of a cut, lies in its table
   pub stock-row : Tables stock cuts n → (b : ℕ) → b < n .stock → stockWords * b + stockWords ≤ length stock

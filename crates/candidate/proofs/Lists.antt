@@ -1,47 +1,18 @@
--- Laws of lists that candidates use: the first numbers, an element moved, lists without repetition.
+-- Laws of lists that candidates use: lists without repetition, and an element moved.
 use Prim.Native.Nat.{ℕ, zero, suc, _+_, _-_, _≤_, _<_}
 use native.Mathlib.Nat.{le-of-suc-le-suc, not-suc-le-zero}
 use native.Mathlib.Omega.{arith}
 use mathlib.Core.Path.{_≡_, refl, sym, ap, ap₂, _∙_, subst}
-use mathlib.Core.List.{List, [], _∷_, _++_, map, append-assoc, List·Memᴰ, List·Memᴰ·head, List·Memᴰ·tail}
+use mathlib.Core.List.{List, [], _∷_, _++_, map, append-assoc}
 use lib.ListN.{length, getD, set, take, drop, take-append-drop, length-append}
-use lib.Seq.{take-all, take-suc-set, take-append-le, drop-append-le, length-take-le, take-nil}
+use lib.Seq.{take-append-le, drop-append-le, length-take-le, take-nil}
 use Rattle.lists.specs.Base.{countFrom, range, removeAt}
 use Rattle.lists.proofs.Perm.{Perm, perm-sym, perm-middle, also, All, Pairs, all-map, pairs-perm, removeAt-perm, length-removeAt}
+use Rattle.lists.proofs.Counts.{count-rises}
+use Rattle.lists.proofs.Every.{all-get, pairs-each}
+use Rattle.lists.proofs.Maps.{map-same}
+use Rattle.lists.proofs.Arrays.{removeAt-split, take-removeAt}
 use Rattle.orders.specs.Rows.{insertAt}
-
--- ---- the first numbers
-
-pub count-snoc : (i n : ℕ) → countFrom i (suc n) ≡ countFrom i n ++ ((i + n) ∷ [])
-unfolding countFrom
-count-snoc i zero = let e : i ≡ i + 0 = omega arith in ap (λ (m : ℕ). m ∷ []) e
-count-snoc i (suc n) =
-    let e : suc i + n ≡ i + suc n = omega arith in
-    ap {B = List ℕ} (λ r. i ∷ r) (count-snoc (suc i) n ∙ ap (λ (m : ℕ). countFrom (suc i) n ++ (m ∷ [])) e)
-
--- a turn of the loop that fills a list with them
-pub range-more : (n : ℕ) (d : List ℕ) → n < length d → take n d ≡ range n → take (n + 1) (set d n n) ≡ range (n + 1)
-range-more n d h e =
-    let z : 0 + n ≡ n = omega arith in
-    let s : suc n ≡ n + 1 = omega arith in
-    ap (λ (m : ℕ). take m (set d n n)) (sym s)
-    ∙ take-suc-set d n n h
-    ∙ ap (λ (r : List ℕ). r ++ (n ∷ [])) e
-    ∙ ap (λ (m : ℕ). range n ++ (m ∷ [])) (sym z)
-    ∙ sym (count-snoc 0 n)
-    ∙ ap range s
-
-pub range-all : (n : ℕ) (d : List ℕ) → length d ≡ n → take n d ≡ range n → d ≡ range n
-range-all n d e h = sym (take-all n d (omega arith)) ∙ h
-
-count-bounds : (i n : ℕ) → All (λ k. (i ≤ k) × (k < i + n)) (countFrom i n)
-unfolding countFrom
-count-bounds i zero = tt
-count-bounds i (suc n) =
-    ((omega arith, omega arith), all-map (λ k. (suc i ≤ k) × (k < suc i + n)) (λ k. (i ≤ k) × (k < i + suc n)) (λ k h. (omega arith, omega arith)) (countFrom (suc i) n) (count-bounds (suc i) n))
-
-pub range-below : (n : ℕ) → All (λ k. k < n) (range n)
-range-below n = all-map (λ k. (0 ≤ k) × (k < 0 + n)) (λ k. k < n) (λ k h. omega arith) (range n) (count-bounds 0 n)
 
 -- ---- lists without repetition
 
@@ -52,58 +23,12 @@ pub other-sym : (a b : ℕ) → Other a b → Other b a
 other-sym a b h = λ e. h (sym e)
 
 count-once : (i n : ℕ) → Pairs Other (countFrom i n)
-unfolding countFrom
-count-once i zero = tt
-count-once i (suc n) =
-    (all-map (λ k. (suc i ≤ k) × (k < suc i + n)) (Other i) (λ k h e. absurd (omega arith)) (countFrom (suc i) n) (count-bounds (suc i) n), count-once (suc i) n)
+count-once i n = pairs-each (λ j k. j < k) Other (λ j k h e. absurd (omega arith)) (countFrom i n) (count-rises i n)
 
 pub perm-once : (n : ℕ) {l : List ℕ} → Perm l (range n) → Pairs Other l
 perm-once n p = pairs-perm Other other-sym (perm-sym p) (count-once 0 n)
 
-module _ {A : Type 0} where
-  pub all-get : (P : A → Type 0) (l : List A) (i : ℕ) (d : A) → All P l → i < length l → P (getD l i d)
-  all-get P [] i d h k = absurd (not-suc-le-zero k)
-  all-get P (x ∷ l) zero d h k = h .0
-  all-get P (x ∷ l) (suc i) d h k = all-get P l i d (h .1) (le-of-suc-le-suc k)
-
-  pub get-mem : (l : List A) (i : ℕ) (d : A) → i < length l → List·Memᴰ (getD l i d) l
-  get-mem [] i d k = absurd (not-suc-le-zero k)
-  get-mem (x ∷ l) zero d k = List·Memᴰ·head refl
-  get-mem (x ∷ l) (suc i) d k = List·Memᴰ·tail (get-mem l i d (le-of-suc-le-suc k))
-
-  -- of elements of a list
-  pub all-mem : (l : List A) → All (λ x. List·Memᴰ x l) l
-  all-mem [] = tt
-  all-mem (x ∷ l) = (List·Memᴰ·head refl, all-map (λ y. List·Memᴰ y l) (λ y. List·Memᴰ y (x ∷ l)) (λ y m. List·Memᴰ·tail m) l (all-mem l))
-
-  pub pairs-append : (R : A → A → Type 0) (a b : List A) → Pairs R (a ++ b) → All (λ x. All (R x) b) a
-  pairs-append R [] b h = tt
-  pairs-append R (x ∷ a) b h = (right a (h .0), pairs-append R a b (h .1))
-    where
-      right : (c : List A) → All (R x) (c ++ b) → All (R x) b
-      right [] k = k
-      right (y ∷ c) k = right c (k .1)
-
-  pub pairs-left : (R : A → A → Type 0) (a b : List A) → Pairs R (a ++ b) → Pairs R a
-  pairs-left R [] b h = tt
-  pairs-left R (x ∷ a) b h = (left a (h .0), pairs-left R a b (h .1))
-    where
-      left : (c : List A) → All (R x) (c ++ b) → All (R x) c
-      left [] k = tt
-      left (y ∷ c) k = (k .0, left c (k .1))
-
 -- ---- maps
-
-module _ {A B : Type 0} where
-  pub map-same : (f g : A → B) (l : List A) → All (λ x. g x ≡ f x) l → map g l ≡ map f l
-  map-same f g [] h = refl
-  map-same f g (x ∷ l) h = ap₂ {C = List B} (λ y ys. y ∷ ys) (h .0) (map-same f g l (h .1))
-
-  pub map-removeAt : (f : A → B) (i : ℕ) (l : List A) → map f (removeAt i l) ≡ removeAt i (map f l)
-  unfolding removeAt
-  map-removeAt f i [] = refl
-  map-removeAt f zero (x ∷ l) = refl
-  map-removeAt f (suc i) (x ∷ l) = ap {B = List B} (λ r. f x ∷ r) (map-removeAt f i l)
 
 -- two functions that agree but at one number
 module _ {B : Type 0} (f g : ℕ → B) (b : ℕ) (t : B) (there : g b ≡ t) (others : (x : ℕ) → Other x b → g x ≡ f x) where
@@ -118,24 +43,6 @@ module _ {B : Type 0} (f g : ℕ → B) (b : ℕ) (t : B) (there : g b ≡ t) (o
       ap₂ {C = List B} (λ y ys. y ∷ ys) (others x apart) (map-set l j (p .1) (le-of-suc-le-suc k) e)
 
 -- ---- an element moved
-
-module _ {A : Type 0} where
-  removeAt-split : (j : ℕ) (l : List A) → removeAt j l ≡ take j l ++ drop (suc j) l
-  unfolding removeAt
-  removeAt-split zero [] = refl
-  removeAt-split (suc j) [] = refl
-  removeAt-split zero (x ∷ l) = refl
-  removeAt-split (suc j) (x ∷ l) = ap (λ (r : List A). x ∷ r) (removeAt-split j l)
-
-  take-removeAt : (m j : ℕ) (l : List A) → j ≤ m → take m (removeAt j l) ≡ removeAt j (take (suc m) l)
-  unfolding removeAt
-  take-removeAt zero zero [] h = refl
-  take-removeAt zero zero (x ∷ l) h = refl
-  take-removeAt zero (suc j) l h = absurd (not-suc-le-zero h)
-  take-removeAt (suc m) zero [] h = refl
-  take-removeAt (suc m) (suc j) [] h = refl
-  take-removeAt (suc m) zero (x ∷ l) h = refl
-  take-removeAt (suc m) (suc j) (x ∷ l) h = ap (λ (r : List A). x ∷ r) (take-removeAt m j l (le-of-suc-le-suc h))
 
 module _ (x : ℕ) where
   -- moved down to index s from index j

@@ -1,7 +1,7 @@
 -- The makings of sheets in words: one more insertion changes only the sheet on its board, by one `tryInsert`.
 use Prim.Native.Nat.{ℕ}
 use mathlib.Core.Path.{_≡_, refl, ap, _∙_}
-use mathlib.Core.Bool.{Bool, true, false}
+use mathlib.Core.Bool.{Bool}
 use mathlib.Core.List.{List, [], _∷_, _++_, map, append-nil}
 use mathlib.Core.Option.{Option, none, some, Option·getD}
 use lib.Dec.{eqb}
@@ -9,6 +9,8 @@ use borrow.Author.Tests.{eq-eqb, ne-eqb}
 use Rattle.lists.specs.Base.{if_then_else_, _>>=_, retain, foldOption}
 use Rattle.lists.proofs.Perm.{All}
 use Rattle.lists.proofs.Sums.{map-append}
+use Rattle.lists.proofs.Options.{fold-append}
+use Rattle.lists.proofs.Kept.{retain-append}
 use Rattle.model.specs.declared.StockInstance.{StockInstance}
 use Rattle.model.specs.Sheet.{GuillotineSheet, Insertion, newSheet, tryInsert, rebuild}
 use Rattle.model.specs.Expand.{ProblemInstance}
@@ -17,21 +19,11 @@ use Rattle.candidate.specs.Stands.{boardIn, insertionIn, makingIn, binIn
 
 -- ---- rebuilding
 
-foldOption-append : {A B : Type 0} (f : B → A → Option B) (b : B) (xs ys : List A) → foldOption f b (xs ++ ys) ≡ (foldOption f b xs >>= λ c. foldOption f c ys)
-unfolding foldOption
-foldOption-append f b [] ys = refl
-foldOption-append {B} f b (x ∷ xs) ys = go (f b x) (λ c. foldOption-append f c xs ys)
-  where
-    go : (o : Option B) → ((c : B) → foldOption f c (xs ++ ys) ≡ (foldOption f c xs >>= λ d. foldOption f d ys))
-        → (o >>= λ c. foldOption f c (xs ++ ys)) ≡ ((o >>= λ c. foldOption f c xs) >>= λ d. foldOption f d ys)
-    go none later = refl
-    go (some c) later = later c
-
 module _ (kerf : ℕ) (stock : StockInstance) where
   -- one insertion more is one `tryInsert` more
   pub rebuild-snoc : (is : List Insertion) (i : Insertion) → rebuild kerf stock (is ++ (i ∷ [])) ≡ (rebuild kerf stock is >>= λ t. tryInsert kerf t i)
   unfolding rebuild foldOption
-  rebuild-snoc is i = foldOption-append (tryInsert kerf) (newSheet stock) is (i ∷ []) ∙ go (foldOption (tryInsert kerf) (newSheet stock) is)
+  rebuild-snoc is i = fold-append (tryInsert kerf) (newSheet stock) is (i ∷ []) ∙ go (foldOption (tryInsert kerf) (newSheet stock) is)
     where
       same : (o : Option GuillotineSheet) → (o >>= λ t. some t) ≡ o
       same none = refl
@@ -44,23 +36,13 @@ module _ (kerf : ℕ) (stock : StockInstance) where
   -- what fails goes on to fail
   pub rebuild-fails : (is js : List Insertion) → rebuild kerf stock is ≡ none → rebuild kerf stock (is ++ js) ≡ none
   unfolding rebuild
-  rebuild-fails is js e = foldOption-append (tryInsert kerf) (newSheet stock) is js ∙ ap (λ (o : Option GuillotineSheet). o >>= λ t. foldOption (tryInsert kerf) t js) e
+  rebuild-fails is js e = fold-append (tryInsert kerf) (newSheet stock) is js ∙ ap (λ (o : Option GuillotineSheet). o >>= λ t. foldOption (tryInsert kerf) t js) e
 
 pub rebuild-none : (kerf : ℕ) (stock : StockInstance) → rebuild kerf stock [] ≡ some (newSheet stock)
 unfolding rebuild foldOption
 rebuild-none kerf stock = refl
 
 -- ---- the insertions on a board
-
-retain-append : {A : Type 0} (p : A → Bool) (xs ys : List A) → retain p (xs ++ ys) ≡ retain p xs ++ retain p ys
-unfolding retain
-retain-append p [] ys = refl
-retain-append {A} p (x ∷ xs) ys = go (p x) (retain-append p xs ys)
-  where
-    go : (b : Bool) → retain p (xs ++ ys) ≡ retain p xs ++ retain p ys
-        → (if b then x ∷ retain p (xs ++ ys) else retain p (xs ++ ys)) ≡ (if b then x ∷ retain p xs else retain p xs) ++ retain p ys
-    go true e = ap (λ (r : List A). x ∷ r) e
-    go false e = e
 
 pub on-append : (board : ℕ) (a b : List ℕ) → onBoard board (a ++ b) ≡ onBoard board a ++ onBoard board b
 unfolding onBoard

@@ -1,5 +1,5 @@
 -- A placement in words is the definition's `placeCutFirstFit` of the candidate that they stand for, and leaves a candidate under way.
-use Prim.Native.Nat.{ℕ, suc, _+_, _-_, _≤_, _<_}
+use Prim.Native.Nat.{ℕ, _+_, _-_, _≤_, _<_}
 use native.Mathlib.Omega.{arith}
 use mathlib.Core.Path.{_≡_, refl, sym, ap, _∙_, subst}
 use mathlib.Core.Bool.{Bool, true, false}
@@ -7,11 +7,14 @@ use mathlib.Core.List.{List, [], _∷_, _++_, map, append-assoc, List·Memᴰ, L
 use mathlib.Core.Option.{none, some}
 use lib.Dec.{ltb, eqb}
 use lib.ListN.{length, getD, set, take, drop, length-drop, List·getD-map}
-use lib.Seq.{take-suc-set, take-take, getD-take, getD-drop, take-append-add, drop-append-add}
+use lib.Seq.{take-take, getD-take, getD-drop, take-append-add, drop-append-add}
 use borrow.Author.Tests.{ltb-true, ltb-false, eqb-true, eqb-false}
 use Rattle.lists.specs.Base.{range, removeAt}
-use Rattle.lists.proofs.Perm.{Perm, perm-sym, perm-append-left, perm-middle, also, All, Pairs, all-map, all-both, all-append, all-left, all-right}
+use Rattle.lists.proofs.Perm.{Perm, perm-sym, perm-append-left, perm-middle, also, All, Pairs, all-map, all-both, all-append, all-left, all-right, all-self}
 use Rattle.lists.proofs.Sums.{length-map, map-append}
+use Rattle.lists.proofs.Every.{all-get, get-mem, pairs-left}
+use Rattle.lists.proofs.Maps.{map-removeAt}
+use Rattle.lists.proofs.Arrays.{take-push}
 use Rattle.model.specs.declared.BaselineGuillotineHeuristic.{BaselineGuillotineHeuristic}
 use Rattle.model.specs.declared.CutInstance.{CutInstance}
 use Rattle.model.specs.Sheet.{GuillotineSheet, Insertion, newSheet, tryInsert, rebuild}
@@ -26,7 +29,7 @@ use Rattle.candidate.specs.Entries.{insertionWord, boardOf, cutOf}
 use Rattle.candidate.specs.Moves.{movedUp, withInsertion, withUnused, withSheet, firstFitIn, takePlace}
 use Rattle.candidate.specs.Stands.{Stands, boardIn, cutIn, insertionIn, makingIn, binIn, sheetBoards, availableBoards, placedWords, unusedNumbers, candidateIn}
 use Rattle.candidate.proofs.Codes.{board-back, cut-back, row-back}
-use Rattle.candidate.proofs.Lists.{Other, other-sym, all-get, get-mem, all-mem, pairs-left, map-set, map-else, map-removeAt, moved-front, moved-parts, moved-perm, length-moved}
+use Rattle.candidate.proofs.Lists.{Other, other-sym, map-set, map-else, moved-front, moved-parts, moved-perm, length-moved}
 use Rattle.candidate.proofs.Ends.{end-unused, end-sheet, end-new}
 use Rattle.candidate.proofs.FirstFit.{Refuses, TakenAt, Found, taken, refused, first-fit, taken-inside, taken-get, taken-before, taken-behind, in-bins, no-bin, on-stock, no-stock}
 use Rattle.candidate.proofs.Makings.{making-other, bin-other, rebuilt-bin, rebuilt-same}
@@ -49,9 +52,6 @@ module _ (kerf : ℕ) (h : BaselineGuillotineHeuristic) (c : Candidate) (cut : C
   ends-unplaced : insertInBins kerf i (c .bins) ≡ none → takeFirstFittingStock kerf i (c .availableStock) ≡ none → placeCutFirstFit kerf h c cut ≡ unplaced c cut
   unfolding placeCutFirstFit firstEnd
   ends-unplaced e f = rw (e, f)
-
-take-more : (n : ℕ) (l : List ℕ) (a : ℕ) → n < length l → take (n + 1) (set l n a) ≡ take n l ++ (a ∷ [])
-take-more n l a h = let e : n + 1 ≡ suc n = omega arith in ap (λ (m : ℕ). take m (set l n a)) e ∙ take-suc-set l n a h
 
 -- a number joins a list of numbers, and leaves those still to come
 joins : (a b : List ℕ) (x : ℕ) (later : List ℕ) → Perm ((a ++ (x ∷ [])) ++ (b ++ later)) (a ++ (b ++ (x ∷ later)))
@@ -100,7 +100,7 @@ module _ (inst : ProblemInstance) (a : Admitted inst) (r : Ranged inst) (k : Wor
   module _ (j : ℕ) (past : length (inst .stock) ≤ j) (refuse : All (Refuses kerf insertion) (map (binIn inst words) boards)) where
     unused-more : unusedNumbers (withUnused k cut) ≡ unusedNumbers k ++ (cut ∷ [])
     unfolding withUnused
-    unused-more = take-more (k .«unused_count») (k .unused) cut (omega (arith, spare, few-placed inst (cut ∷ later) k st r))
+    unused-more = take-push (k .«unused_count») (k .unused) cut (omega (arith, spare, few-placed inst (cut ∷ later) k st r))
 
     all-refuse : All (Refuses kerf insertion) (before .bins) × All (Refuses kerf insertion) (map newSheet (before .availableStock))
     all-refuse =
@@ -122,7 +122,7 @@ module _ (inst : ProblemInstance) (a : Admitted inst) (r : Ranged inst) (k : Wor
     end-unused-placed =
         record {
           is = unused-is;
-          sheets = all-map (λ b. List·Memᴰ b (sheetBoards k)) _ (λ b m. stayed m (λ known. absurd (omega arith)) refl) (sheetBoards k) (all-mem (sheetBoards k));
+          sheets = all-map (λ b. List·Memᴰ b (sheetBoards k)) _ (λ b m. stayed m (λ known. absurd (omega arith)) refl) (sheetBoards k) (all-self (sheetBoards k));
           stands = record {
             room = st .room;
             sheets = st .sheets;
@@ -169,7 +169,7 @@ module _ (inst : ProblemInstance) (a : Admitted inst) (r : Ranged inst) (k : Wor
 
     words-more : placedWords (withInsertion k word) ≡ more
     unfolding withInsertion
-    words-more = take-more (k .placed) (k .insertions) word placed-room
+    words-more = take-push (k .placed) (k .insertions) word placed-room
 
     cuts-more : map cutOf more ≡ map cutOf words ++ (cut ∷ [])
     cuts-more = map-append cutOf words (word ∷ []) ∙ ap (λ (c : ℕ). map cutOf words ++ (c ∷ [])) (cut-back board cut h small-cut)
@@ -242,7 +242,7 @@ module _ (inst : ProblemInstance) (a : Admitted inst) (r : Ranged inst) (k : Wor
           Memᴰ·cast (board-is ∙ sym (getD-take (k .sheets) (k .boards) j 0 sheet)) (get-mem (sheetBoards k) j 0 (omega (arith, length-sheets inst (cut ∷ later) k st r))) in
           record {
             is = sheet-is;
-            sheets = all-map (λ b. List·Memᴰ b (sheetBoards k)) (SheetAfter j (withInsertion k word)) sheet-after (sheetBoards k) (all-mem (sheetBoards k));
+            sheets = all-map (λ b. List·Memᴰ b (sheetBoards k)) (SheetAfter j (withInsertion k word)) sheet-after (sheetBoards k) (all-self (sheetBoards k));
             stands = record {
               room = st .room;
               sheets = st .sheets;
@@ -363,7 +363,7 @@ module _ (inst : ProblemInstance) (a : Admitted inst) (r : Ranged inst) (k : Wor
           (all-append (SheetAfter j after) (sheetBoards k) (board ∷ [])
           (all-both (λ b. List·Memᴰ b (sheetBoards k)) (Other board) (SheetAfter j after)
           (λ b m o. stayed m (λ q. other-sym board b o) (ap (λ (ws : List ℕ). binIn inst ws b) words-after ∙ others b (other-sym board b o)))
-          (sheetBoards k) (all-mem (sheetBoards k)) apart)
+          (sheetBoards k) (all-self (sheetBoards k)) apart)
           (grown board refl after words-after, tt))
 
       end-new-placed : Placed j after

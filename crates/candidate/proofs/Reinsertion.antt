@@ -1,5 +1,4 @@
 -- The unused cuts of a candidate, to be placed anew.
-use Prim.Native.Nat.{_+_}
 use native.Mathlib.Omega.{arith}
 use mathlib.Core.Path.{_≡_, refl, subst}
 use mathlib.Core.List.{List, [], _++_, map, append-nil}

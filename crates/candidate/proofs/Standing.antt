@@ -1,5 +1,5 @@
 -- What a candidate under way has: its boards without repetition, the available ones bare, every sheet rebuilt, its counts in range.
-use Prim.Native.Nat.{ℕ, _+_, _-_, _≤_, _<_}
+use Prim.Native.Nat.{ℕ, _+_, _≤_, _<_}
 use native.Mathlib.Omega.{arith}
 use mathlib.Core.Path.{_≡_, refl, sym, ap, _∙_, subst}
 use mathlib.Core.List.{List, [], _∷_, _++_, map, List·Memᴰ, List·Memᴰ·head, Memᴰ·append-right}
@@ -9,18 +9,22 @@ use lib.Seq.{take-take, length-take-le}
 use Rattle.lists.specs.Base.{range}
 use Rattle.lists.proofs.Perm.{perm-sym, perm-append-left, perm-middle, also, All, Pairs, all-map, all-append, all-left, all-right, all-perm, pairs-perm, mem-perm, in-all}
 use Rattle.lists.proofs.Sums.{map-append}
+use Rattle.lists.proofs.Kept.{retain-all}
+use Rattle.lists.proofs.Counts.{range-below}
+use Rattle.lists.proofs.Every.{pairs-across}
+use Rattle.lists.proofs.Maps.{map-same}
 use Rattle.model.specs.declared.CutInstance.{CutInstance}
 use Rattle.model.specs.Types.{cutKey}
 use Rattle.model.specs.Sheet.{GuillotineSheet, newSheet, rebuild}
 use Rattle.model.specs.Candidate.{Candidate, removeUnusedCut}
 use Rattle.model.specs.Expand.{ProblemInstance}
-use Rattle.trust.proofs.Candidate.{placedCuts, Differ, differ-sym, retain-all}
+use Rattle.trust.proofs.Candidate.{placedCuts, Differ, differ-sym}
 use Rattle.trust.proofs.Winner.{Admitted}
 use Rattle.trust.proofs.Ranges.{Ranged}
 use Rattle.candidate.specs.declared.Candidate.{Candidate as Words}
 use Rattle.candidate.specs.Entries.{boardOf, onBoard}
 use Rattle.candidate.specs.Stands.{Stands, boardIn, cutIn, makingIn, binIn, sheetBoards, availableBoards, placedWords, unusedNumbers, candidateIn}
-use Rattle.candidate.proofs.Lists.{Other, perm-once, range-below, pairs-append, map-same}
+use Rattle.candidate.proofs.Lists.{Other, perm-once}
 use Rattle.candidate.proofs.Makings.{on-none, bare-rebuilt, bin-bare}
 
 -- the sheet on a board is the one that its making builds
@@ -56,7 +60,7 @@ module _ (inst : ProblemInstance) (later : List ℕ) (k : Words) (st : Stands in
 
   -- no sheet is on an available board
   pub sheets-apart : All (λ s. All (Other s) (availableBoards inst k)) (sheetBoards k)
-  sheets-apart = pairs-append Other (sheetBoards k) (availableBoards inst k) (rw boards-split boards-once)
+  sheets-apart = pairs-across Other (sheetBoards k) (availableBoards inst k) (rw boards-split boards-once)
 
   available-bare : All (λ b. onBoard b (placedWords k) ≡ []) (availableBoards inst k)
   available-bare = go (availableBoards inst k) sheets-apart

@@ -1,14 +1,13 @@
 -- The new candidate: every board available and in order, and every cut still to be placed.
-use Prim.Native.Nat.{ℕ, zero, suc, _≤_}
-use native.Mathlib.Nat.{le-of-suc-le-suc, not-suc-le-zero}
+use Prim.Native.Nat.{ℕ}
 use native.Mathlib.Omega.{arith}
-use mathlib.Core.Path.{_≡_, refl, ap, _∙_, subst}
-use mathlib.Core.List.{List, [], _∷_, map}
-use lib.ListN.{length, getD, take}
-use lib.Seq.{ext-getD}
-use Rattle.lists.specs.Base.{countFrom, range}
+use mathlib.Core.Path.{_≡_, ap, _∙_, subst}
+use mathlib.Core.List.{List, [], map}
+use lib.ListN.{length, take}
+use Rattle.lists.specs.Base.{range}
 use Rattle.lists.proofs.Perm.{Perm, perm-refl, map-perm, length-perm}
-use Rattle.lists.proofs.Sums.{length-map, length-countFrom}
+use Rattle.lists.proofs.Sums.{length-countFrom}
+use Rattle.lists.proofs.Counts.{take-count, map-get}
 use Rattle.model.specs.declared.CutInstance.{CutInstance}
 use Rattle.model.specs.Candidate.{newCandidate}
 use Rattle.model.specs.Expand.{ProblemInstance}
@@ -17,19 +16,6 @@ use Rattle.trust.proofs.Ranges.{Ranged}
 use Rattle.trust.proofs.Proper.{start-proper}
 use Rattle.candidate.specs.Moves.{newWords}
 use Rattle.candidate.specs.Stands.{Stands, boardIn, cutIn, candidateIn}
-use Rattle.candidate.proofs.Instances.{get-range}
-
-take-count : (i n m : ℕ) → n ≤ m → take n (countFrom i m) ≡ countFrom i n
-unfolding countFrom
-take-count i zero m h = refl
-take-count i (suc n) zero h = absurd (not-suc-le-zero h)
-take-count i (suc n) (suc m) h = ap (λ (r : List ℕ). i ∷ r) (take-count (suc i) n m (le-of-suc-le-suc h))
-
--- a list by its numbers
-map-get : {A : Type 0} (d : A) (l : List A) → map (λ k. getD l k d) (range (length l)) ≡ l
-map-get d l =
-    let size : length (map (λ k. getD l k d) (range (length l))) ≡ length l = length-map (λ k. getD l k d) (range (length l)) ∙ length-countFrom 0 (length l) in
-    ext-getD d (map (λ k. getD l k d) (range (length l))) l size (λ k h. get-range (λ j. getD l j d) d (length l) k (omega arith))
 
 module _ (inst : ProblemInstance) (r : Ranged inst) where
   boards-first : take (length (inst .stock)) (newWords .boards) ≡ range (length (inst .stock))

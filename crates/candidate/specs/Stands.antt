@@ -1,8 +1,8 @@
 -- What a candidate of words stands for: the definition's candidate, each sheet rebuilt from its board and its insertions.
-use Prim.Native.Nat.{ℕ, _+_, _-_, _*_, _≤_}
+use Prim.Native.Nat.{ℕ, _+_, _*_, _≤_}
 use mathlib.Core.Path.{_≡_}
 use mathlib.Core.Bool.{false}
-use mathlib.Core.List.{List, [], _++_, map, List·Memᴰ}
+use mathlib.Core.List.{List, _++_, map, List·Memᴰ}
 use mathlib.Core.Option.{some, Option·getD}
 use lib.ListN.{length, getD, take, drop}
 use Rattle.lists.specs.Base.{range}

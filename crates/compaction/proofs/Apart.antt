@@ -1,22 +1,20 @@
 -- A sheet taken apart: the loop sends each insertion to the kept ones or its cut to the unused ones.
 use Prim.Native.Nat.{ℕ, _+_, _≤_, _<_}
-use native.Mathlib.Numerals.{add-one}
 use native.Mathlib.Omega.{arith}
 use mathlib.Core.Path.{_≡_, refl, sym, ap, _∙_, subst, subst₂}
 use mathlib.Core.Bool.{Bool, true, false, not}
 use mathlib.Core.List.{List, [], _∷_, _++_, map, append-nil, append-assoc}
 use lib.Dec.{eqb}
 use lib.ListN.{length, getD, set, take, length-append, length-set}
-use lib.Seq.{take-suc-set}
 use borrow.Author.Tests.{eq-eqb, ne-eqb}
 use Rattle.lists.specs.Base.{if_then_else_, retain}
-use Rattle.lists.proofs.Sums.{length-map, map-append}
-use Rattle.trust.proofs.Crossover.{retain-append}
+use Rattle.lists.proofs.Sums.{map-append}
+use Rattle.lists.proofs.Kept.{retain-append}
+use Rattle.lists.proofs.Arrays.{take-next, take-push}
 use Rattle.candidate.specs.declared.Candidate.{Candidate as Words}
 use Rattle.candidate.specs.Entries.{boardOf, cutOf, onBoard}
-use Rattle.candidate.specs.Stands.{placedWords, unusedNumbers}
+use Rattle.candidate.specs.Stands.{unusedNumbers}
 use Rattle.candidate.proofs.Makings.{on-same, on-other}
-use Rattle.evaluation.proofs.Walks.{take-next}
 use Rattle.compaction.specs.Compact.{offBoard, TakenApart}
 
 -- ---- one more insertion
@@ -29,20 +27,20 @@ module _ (words : List ℕ) (board i : ℕ) (here : i < length words) where
   unfolding offBoard retain
   off-one b e =
       let p : ℕ → Bool = λ w. not (eqb (boardOf w) board) in
-      ap (retain p) (take-next words i here)
+      ap (retain p) (take-next words i 0 here)
       ∙ retain-append p (take i words) (word ∷ [])
       ∙ ap (λ (t : Bool). retain p (take i words) ++ (if not t then word ∷ [] else [])) e
 
   module _ (there : boardOf word ≡ board) where
     on-here : onBoard board (take (i + 1) words) ≡ onBoard board (take i words) ++ (word ∷ [])
-    on-here = ap (onBoard board) (take-next words i here) ∙ on-same (take i words) word board there
+    on-here = ap (onBoard board) (take-next words i 0 here) ∙ on-same (take i words) word board there
 
     off-here : offBoard board (take (i + 1) words) ≡ offBoard board (take i words)
     off-here = off-one true (eq-eqb _ _ there) ∙ append-nil _
 
   module _ (aside : boardOf word ≡ board → ⊥) where
     on-aside : onBoard board (take (i + 1) words) ≡ onBoard board (take i words)
-    on-aside = ap (onBoard board) (take-next words i here) ∙ on-other (take i words) word board aside
+    on-aside = ap (onBoard board) (take-next words i 0 here) ∙ on-other (take i words) word board aside
 
     off-aside : offBoard board (take (i + 1) words) ≡ offBoard board (take i words) ++ (word ∷ [])
     off-aside = off-one false (ne-eqb _ _ aside)
@@ -51,10 +49,7 @@ module _ (words : List ℕ) (board i : ℕ) (here : i < length words) where
 
 module _ (a l : List ℕ) (n v : ℕ) (room : n < length a) (is : take n a ≡ l) where
   pub stored : take (n + 1) (set a n v) ≡ l ++ (v ∷ [])
-  stored = ap (λ (m : ℕ). take m (set a n v)) (add-one n) ∙ take-suc-set a n v room ∙ ap (λ (r : List ℕ). r ++ (v ∷ [])) is
-
-length-snoc : (l : List ℕ) (x : ℕ) → length (l ++ (x ∷ [])) ≡ length l + 1
-length-snoc l x = length-append l (x ∷ [])
+  stored = take-push n a v room ∙ ap (λ (r : List ℕ). r ++ (v ∷ [])) is
 
 -- ---- the loop
 
@@ -122,7 +117,7 @@ module _ (c : Words) (board i : ℕ) (after : Words) (kept unused : ℕ) (room :
             ∙ append-assoc (unusedNumbers c) (map cutOf earlier) (cut ∷ [])
             ∙ ap (λ (k : ℕ). unusedNumbers c ++ (map cutOf earlier ++ (k ∷ []))) e
             ∙ ap (λ (r : List ℕ). unusedNumbers c ++ r) (sym (ap (map cutOf) on ∙ map-append cutOf earlier (w ∷ [])));
-        count = omega (arith, so-far .count, ap length on, length-snoc earlier w);
+        count = omega (arith, so-far .count, ap length on, length-append earlier (w ∷ []));
         whole = omega (arith, so-far .whole);
       }
 
@@ -146,7 +141,7 @@ module _ (c : Words) (board i : ℕ) (after : Words) (kept unused : ℕ) (room :
         insertionsRoom = simp length-set (so-far .insertionsRoom);
         unusedRoom = so-far .unusedRoom;
         insertions = stored (after .insertions) earlier kept w (omega (arith, so-far .insertionsRoom, so-far .whole, so-far .count)) (so-far .insertions) ∙ sym off;
-        placed = omega (arith, so-far .placed, ap length off, length-snoc earlier w);
+        placed = omega (arith, so-far .placed, ap length off, length-append earlier (w ∷ []));
         cuts = so-far .cuts ∙ ap (λ (r : List ℕ). unusedNumbers c ++ map cutOf r) (sym on);
         count = so-far .count ∙ ap (λ (r : List ℕ). c .«unused_count» + length r) (sym on);
         whole = omega (arith, so-far .whole);

@@ -1,18 +1,22 @@
 -- A candidate of words with its least fit sheet taken apart stands for the definition's compacted candidate.
-use Prim.Native.Nat.{ℕ, zero, suc, _+_, _-_, _≤_, _<_}
+use Prim.Native.Nat.{ℕ, suc, _+_, _-_, _≤_, _<_}
 use native.Mathlib.Omega.{arith}
-use mathlib.Core.Path.{_≡_, refl, sym, ap, ap₂, _∙_, subst}
-use mathlib.Core.Logic.{_⊎_, inl, inr, ⊎-elim}
-use mathlib.Core.Bool.{Bool, true, false, not}
-use mathlib.Core.List.{List, [], _∷_, _++_, map, append-nil, append-assoc, List·Memᴰ, List·Memᴰ·head, List·Memᴰ·cases-cons, Memᴰ·append-right}
+use mathlib.Core.Path.{_≡_, refl, sym, ap, _∙_, subst}
+use mathlib.Core.Logic.{⊎-elim}
+use mathlib.Core.Bool.{Bool, not}
+use mathlib.Core.List.{List, [], _∷_, _++_, map, append-nil, append-assoc, List·Memᴰ, List·Memᴰ·cases-cons, Memᴰ·append-right}
 use mathlib.Core.Option.{Option, some, Option·getD}
-use lib.Dec.{T, T-not, eqb, ltb}
-use lib.ListN.{length, getD, take, drop, length-append, length-take, length-drop}
+use lib.Dec.{T, T-not, eqb}
+use lib.ListN.{length, getD, take, drop, length-append, length-drop}
 use lib.Seq.{split-at, take-at, drop-at, take-append-add, getD-take, length-take-le}
 use borrow.Author.Tests.{lt-ltb, le-ltb, eq-eqb, ne-eqb, eqb-true}
-use Rattle.lists.specs.Base.{if_then_else_, _>>=_, retain, range, removeAt}
-use Rattle.lists.proofs.Perm.{Perm, perm-refl, perm-sym, perm-append-left, perm-append-right, perm-append-comm, perm-middle, also, keep, done, All, Pairs, all-map, all-both, all-left, all-self, pairs-perm, mem-perm, in-all, removeAt-perm, length-perm, map-perm}
+use Rattle.lists.specs.Base.{retain, range, removeAt}
+use Rattle.lists.proofs.Perm.{Perm, perm-sym, perm-append-left, perm-append-right, perm-append-comm, perm-middle, also, All, Pairs, all-map, all-both, all-self, pairs-perm, mem-perm, in-all, removeAt-perm, length-perm, map-perm}
 use Rattle.lists.proofs.Sums.{length-map, map-append}
+use Rattle.lists.proofs.Kept.{retain-sub, parted, retain-wider}
+use Rattle.lists.proofs.Every.{pairs-left}
+use Rattle.lists.proofs.Maps.{map-same}
+use Rattle.lists.proofs.Arrays.{removeAt-mid}
 use Rattle.model.specs.declared.StockInstance.{StockInstance}
 use Rattle.model.specs.declared.CutInstance.{CutInstance}
 use Rattle.model.specs.Sheet.{GuillotineSheet, Insertion, newSheet, rebuild, sheetKeys}
@@ -23,37 +27,17 @@ use Rattle.trust.proofs.Compact.{bin-found}
 use Rattle.trust.proofs.Winner.{Admitted}
 use Rattle.trust.proofs.Ranges.{Ranged}
 use Rattle.trust.proofs.Proper.{SheetProper, UnderWay, compact-proper}
-use Rattle.trust.proofs.Lists.{retain-sub}
 use Rattle.candidate.specs.declared.Candidate.{Candidate as Words}
 use Rattle.candidate.specs.Entries.{boardOf, cutOf, onBoard}
 use Rattle.candidate.specs.Stands.{boardIn, cutIn, insertionIn, makingIn, binIn, sheetBoards, availableBoards, placedWords, unusedNumbers, candidateIn, Stands}
-use Rattle.candidate.proofs.Lists.{Other, other-sym, pairs-left, map-same, all-get, get-mem}
+use Rattle.candidate.proofs.Lists.{Other, other-sym}
 use Rattle.candidate.proofs.Standing.{few-boards, length-all-boards, length-sheets, boards-split, boards-once}
 use Rattle.evaluation.specs.OnSheets.{noBin, IsWorst}
-use Rattle.evaluation.proofs.OnBoards.{parted}
 use Rattle.evaluation.proofs.Sheets.{BinAt, bin-at}
-use Rattle.evaluation.proofs.Validity.{length-placed, length-unused}
+use Rattle.evaluation.proofs.Validity.{length-placed}
 use Rattle.compaction.specs.Compact.{offBoard, putBack, TakenApart, SameSheet, Compacted}
-use Rattle.compaction.proofs.Shifted.{removeAt-mid}
 
 -- ---- insertions on a board and off it
-
-module _ {A : Type 0} (p : A → Bool) where
-  -- of what is kept by a wider test, the same is kept
-  retain-wider : (q : A → Bool) → ((x : A) → p x ≡ true → q x ≡ true) → (l : List A) → retain p (retain q l) ≡ retain p l
-  unfolding retain
-  retain-wider q h [] = refl
-  retain-wider q h (x ∷ l) = out (q x) (retain q l) ∙ go (p x) (q x) (h x) (retain p (retain q l)) (retain p l) (retain-wider q h l)
-    where
-      out : (b : Bool) (m : List A) → retain p (if b then x ∷ m else m) ≡ (if b then (if p x then x ∷ retain p m else retain p m) else retain p m)
-      out true m = refl
-      out false m = refl
-
-      go : (a b : Bool) → (a ≡ true → b ≡ true) → (m n : List A) → m ≡ n → (if b then (if a then x ∷ m else m) else m) ≡ (if a then x ∷ n else n)
-      go true true f m n e = ap (λ (r : List A). x ∷ r) e
-      go true false f m n e = let g = f refl in let z : _≡_ {A = ℕ} 0 1 = cc in absurd (omega arith)
-      go false true f m n e = e
-      go false false f m n e = e
 
 pub split-words : (board : ℕ) (words : List ℕ) → Perm (offBoard board words ++ onBoard board words) words
 unfolding offBoard onBoard

@@ -1,22 +1,14 @@
 -- A board put behind the others: the loop moves those between down, one at a time.
-use Prim.Native.Nat.{ℕ, zero, suc, _+_, _-_, _≤_, _<_}
+use Prim.Native.Nat.{ℕ, suc, _+_, _-_, _≤_, _<_}
 use native.Mathlib.Numerals.{add-one}
 use native.Mathlib.Omega.{arith}
-use mathlib.Core.Path.{_≡_, refl, sym, ap, _∙_}
-use mathlib.Core.List.{List, [], _∷_, _++_, append-assoc}
+use mathlib.Core.Path.{_≡_, sym, ap, _∙_}
+use mathlib.Core.List.{List, _∷_, _++_}
 use lib.ListN.{length, getD, set, take, drop, length-append, length-take, length-drop}
 use lib.Seq.{drop-cons, getD-append-add, getD-drop, take-add, length-take-le, set-at, paste, paste-zero, paste-suc}
 use Rattle.lists.specs.Base.{removeAt}
+use Rattle.lists.proofs.Arrays.{removeAt-mid}
 use Rattle.compaction.specs.Compact.{putBack}
-
--- ---- an element taken out of the middle
-
-pub removeAt-mid : {A : Type 0} (p : List A) (x : A) (q : List A) (n : ℕ) → length p ≡ n → removeAt n (p ++ x ∷ q) ≡ p ++ q
-unfolding removeAt
-removeAt-mid [] x q zero e = refl
-removeAt-mid [] x q (suc n) e = absurd (omega arith)
-removeAt-mid (y ∷ p) x q zero e = absurd (omega arith)
-removeAt-mid {A} (y ∷ p) x q (suc n) e = ap {B = List A} (λ r. y ∷ r) (removeAt-mid p x q n (omega arith))
 
 -- ---- the loop
 

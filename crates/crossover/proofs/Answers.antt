@@ -1,13 +1,15 @@
 -- The two answers of a crossover, and the rebuilding that decides between them.
 use Prim.Native.Nat.{ℕ, _*_, _≤_, _<_}
 use native.Mathlib.Omega.{arith}
-use mathlib.Core.Path.{_≡_, refl, sym, ap, _∙_, subst}
-use mathlib.Core.Bool.{Bool, true, false, false≢true, true≢false, _&&_}
+use mathlib.Core.Path.{_≡_, sym, ap, _∙_, subst}
+use mathlib.Core.Bool.{true, false, false≢true}
 use mathlib.Core.List.{List, [], _∷_, map}
 use mathlib.Core.Option.{Option, none, some}
 use lib.ListN.{length, getD, take}
 use Rattle.lists.specs.Base.{isSome, all}
 use Rattle.lists.proofs.Sums.{length-map}
+use Rattle.lists.proofs.Options.{none-by, some-by}
+use Rattle.lists.proofs.Booleans.{and-true}
 use Rattle.model.specs.declared.BaselineGuillotineHeuristic.{BaselineGuillotineHeuristic}
 use Rattle.model.specs.Candidate.{Candidate}
 use Rattle.model.specs.Sheet.{GuillotineSheet, rebuild}
@@ -33,23 +35,10 @@ module _ (inst : ProblemInstance) (o : Option Candidate) (c : Words) where
   pub one-child : o ≡ some (candidateIn inst c) → Stands inst [] c → IsChild inst o (record { found = true; candidate = c })
   one-child e s = record { found = ap isSome (sym e); is = λ f. e; stands = λ f. s }
 
--- an option by whether there is one
-pub none-by : {A : Type 0} (o : Option A) → isSome o ≡ false → o ≡ none
-none-by none e = refl
-none-by (some a) e = absurd (true≢false e)
-
-pub some-by : {A : Type 0} (o : Option A) → isSome o ≡ true → (a : A) × (o ≡ some a)
-some-by none e = absurd (false≢true e)
-some-by (some a) e = (a, refl)
-
 -- the rebuilding of one board
 pub one-board : (inst : ProblemInstance) (words : List ℕ) (b : ℕ) → rebuildsAll inst words (b ∷ []) ≡ isSome (rebuild (inst .kerfWidth) (boardIn inst b) (makingIn inst words b))
 unfolding rebuildsAll all
-one-board inst words b = go (isSome (rebuild (inst .kerfWidth) (boardIn inst b) (makingIn inst words b)))
-  where
-    go : (q : Bool) → (q && true) ≡ q
-    go true = refl
-    go false = refl
+one-board inst words b = and-true (isSome (rebuild (inst .kerfWidth) (boardIn inst b) (makingIn inst words b)))
 
 -- the sheets of a candidate
 pub bins-length : (inst : ProblemInstance) (k : Words) → Stands inst [] k → Ranged inst → length (candidateIn inst k .bins) ≡ k .sheets

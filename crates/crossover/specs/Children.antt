@@ -2,7 +2,7 @@
 use Prim.Native.Nat.{ℕ}
 use mathlib.Core.Path.{_≡_}
 use mathlib.Core.Bool.{true}
-use mathlib.Core.List.{List, []}
+use mathlib.Core.List.{[]}
 use mathlib.Core.Option.{Option, some}
 use Rattle.lists.specs.Base.{isSome}
 use Rattle.model.specs.declared.BaselineGuillotineHeuristic.{BaselineGuillotineHeuristic}

@@ -1,5 +1,5 @@
 -- The words of a crossover child stand for the definition's child, if the donor's sheet can be rebuilt; where it can not, there is none.
-use Prim.Native.Nat.{ℕ, zero, suc, _+_, _≤_, _<_}
+use Prim.Native.Nat.{ℕ, _+_, _≤_, _<_}
 use native.Mathlib.Omega.{arith}
 use mathlib.Core.Path.{_≡_, refl, sym, ap, ap₂, _∙_, subst}
 use mathlib.Core.Bool.{Bool, not}
@@ -12,6 +12,10 @@ use borrow.Author.Tests.{eq-eqb}
 use Rattle.lists.specs.Base.{_>>=_, retain, find, enumerate, firstBest, range, removeAt, toList}
 use Rattle.lists.proofs.Perm.{Perm, perm-sym, perm-append-right, perm-append-comm, also, All, all-map, all-left, all-perm, mem-perm, in-all, map-perm, removeAt-perm, length-perm}
 use Rattle.lists.proofs.Sums.{length-map, length-countFrom, map-append}
+use Rattle.lists.proofs.Kept.{retain-all, parted, retain-map}
+use Rattle.lists.proofs.Counts.{range-below, map-get}
+use Rattle.lists.proofs.Maps.{map-same, map-removeAt, map-map}
+use Rattle.lists.proofs.Every.{all-of-map}
 use Rattle.model.specs.declared.BaselineGuillotineHeuristic.{BaselineGuillotineHeuristic}
 use Rattle.model.specs.declared.StockInstance.{StockInstance}
 use Rattle.model.specs.declared.CutInstance.{CutInstance}
@@ -21,33 +25,28 @@ use Rattle.model.specs.Sheet.{GuillotineSheet, Insertion, rebuild, sheetKeys}
 use Rattle.model.specs.Candidate.{Candidate, containsKey, cutsForKeys}
 use Rattle.model.specs.Expand.{ProblemInstance}
 use Rattle.model.specs.Search.{defaultHeuristic, bestDonorBin, fullStock, crossoverChild, childOf}
-use Rattle.trust.proofs.Candidate.{cutsOf, retain-all}
+use Rattle.trust.proofs.Candidate.{cutsOf}
 use Rattle.trust.proofs.Keys.{sheetKeys-cuts}
 use Rattle.trust.proofs.Compact.{bin-found}
 use Rattle.trust.proofs.Winner.{Admitted}
 use Rattle.trust.proofs.Ranges.{Ranged}
 use Rattle.trust.proofs.Proper.{SheetProper, UnderWay, CandidateProper, child-proper}
 use Rattle.candidate.specs.declared.Candidate.{Candidate as Words}
-use Rattle.candidate.specs.Entries.{boardOf, cutOf, rowOf, onBoard}
+use Rattle.candidate.specs.Entries.{boardOf, cutOf, onBoard}
 use Rattle.candidate.specs.Moves.{newWords, movedUp}
 use Rattle.candidate.specs.Stands.{boardIn, cutIn, noStock, noCut, insertionIn, makingIn, binIn, sheetBoards, availableBoards, placedWords, unusedNumbers, candidateIn, Stands}
 use Rattle.candidate.proofs.Codes.{board-back, cut-back, row-back}
-use Rattle.candidate.proofs.Lists.{range-below, map-same, map-removeAt, moved-front, length-moved}
+use Rattle.candidate.proofs.Lists.{moved-front, length-moved}
 use Rattle.candidate.proofs.Makings.{rebuilt-bin}
 use Rattle.candidate.proofs.Standing.{few-boards, length-all-boards, boards-split, boards-below}
 use Rattle.evaluation.specs.Keys.{elem}
 use Rattle.evaluation.specs.OnSheets.{noBin, IsBestDonor}
-use Rattle.evaluation.proofs.OnBoards.{parted}
-use Rattle.evaluation.proofs.BestIndex.{map-map, values, enumerate-range, donor-bin}
-use Rattle.evaluation.proofs.Sheets.{all-unmap, Made, bin-made, BinAt, bin-at}
+use Rattle.evaluation.proofs.BestIndex.{donor-bin}
+use Rattle.evaluation.proofs.Sheets.{Made, bin-made, BinAt, bin-at}
 use Rattle.evaluation.proofs.KeyNumbers.{same-number, contains-number}
 use Rattle.donor.specs.Donated.{withInsertions, withUnusedCuts, anew, donated, othersThan, indexOf, childSheet, childWords}
 use Rattle.donor.proofs.Pushes.{Inserted, inserted, Unplaced, unplaced, cut-small}
-use Rattle.donor.proofs.Picks.{indexed, index-append, find-row, retain-map, length-retain, others-perm}
-
--- a list by its indexes
-by-index : {A : Type 0} (d : A) (l : List A) → map (λ k. getD l k d) (range (length l)) ≡ l
-by-index {A} d l = sym (map-map (λ (e : ℕ × A). e .1) (λ k. (k, getD l k d)) (range (length l))) ∙ ap (map (λ (e : ℕ × A). e .1)) (sym (enumerate-range d l)) ∙ values 0 l
+use Rattle.donor.proofs.Picks.{indexed, index-append, find-row, others-perm}
 
 -- a new candidate has nothing placed, and room
 new-counts : (newWords .placed ≡ 0) × (newWords .«unused_count» ≡ 0)
@@ -255,7 +254,7 @@ module _ (inst : ProblemInstance) (a : Admitted inst) (ranged : Ranged inst) (h 
       record {
         board-known = known;
         few = few;
-        cuts = all-unmap (λ k. k < length (inst .cuts)) cutOf new (subst (All (λ k. k < length (inst .cuts))) (sym (donated-cuts inst words board h)) cuts-below);
+        cuts = all-of-map (λ k. k < length (inst .cuts)) cutOf new (subst (All (λ k. k < length (inst .cuts))) (sym (donated-cuts inst words board h)) cuts-below);
         on = all-map (λ w. boardOf w ≡ board) (λ w. List·Memᴰ (boardOf w) (board ∷ [])) (λ w e. List·Memᴰ·head e) new (donated-on inst words board h);
         insertions = sheet-words;
         index = omega (arith, index-is, inside);
@@ -300,7 +299,7 @@ module _ (inst : ProblemInstance) (a : Admitted inst) (ranged : Ranged inst) (h 
   unfolding cutIn othersThan
   cuts-left =
       ap (λ (x : List InstanceKey). retain (λ c. not (containsKey (cutKey c) x)) (inst .cuts)) donor-keys
-      ∙ ap (retain (λ c. not (containsKey (cutKey c) (map keyAt ks)))) (sym (by-index noCut (inst .cuts)))
+      ∙ ap (retain (λ c. not (containsKey (cutKey c) (map keyAt ks)))) (sym (map-get noCut (inst .cuts)))
       ∙ retain-map (cutIn inst) (λ c. not (containsKey (cutKey c) (map keyAt ks))) (λ k. not (elem k ks)) (range (length (inst .cuts)))
       (all-map (λ k. k < length (inst .cuts)) (λ k. not (containsKey (keyAt k) (map keyAt ks)) ≡ not (elem k ks)) (λ k below. ap not (contains-number cutKey noCut (inst .cuts) (a .ownPanels) k ks below cuts-below))
       (range (length (inst .cuts))) (range-below (length (inst .cuts))))

@@ -1,5 +1,5 @@
 -- A number and its index, a row found by its key, and the numbers that are not among some.
-use Prim.Native.Nat.{ℕ, zero, suc, suc-le-suc, _+_, _≤_, _<_}
+use Prim.Native.Nat.{ℕ, suc, suc-le-suc, _+_, _<_}
 use native.Mathlib.Nat.{zero-lt-suc}
 use native.Mathlib.Omega.{arith}
 use mathlib.Core.Path.{_≡_, refl, sym, ap, ap₂, _∙_, subst}
@@ -12,9 +12,9 @@ use lib.ListN.{length, getD}
 use borrow.Author.Tests.{eq-eqb, eqb-true, eqb-false}
 use Rattle.lists.specs.Base.{if_then_else_, _<|>_, any, retain, find, enumerateFrom, enumerate, range}
 use Rattle.lists.proofs.Perm.{Perm, perm-sym, perm-append-left, perm-append-comm, also, All, Pairs, all-map, all-self, pairs-perm}
-use Rattle.trust.proofs.Candidate.{retain-all}
-use Rattle.trust.proofs.Crossover.{retain-append, retain-none, retain-perm}
-use Rattle.candidate.proofs.Lists.{Other, other-sym, perm-once, pairs-append}
+use Rattle.lists.proofs.Kept.{retain-append, retain-none, retain-perm, retain-all}
+use Rattle.lists.proofs.Every.{pairs-across}
+use Rattle.candidate.proofs.Lists.{Other, other-sym, perm-once}
 use Rattle.evaluation.specs.Keys.{elem}
 use Rattle.evaluation.proofs.KeyNumbers.{none-numbered}
 use Rattle.donor.specs.Donated.{othersThan, indexOf}
@@ -75,27 +75,6 @@ module _ {A : Type 0} (row : ℕ → A) (x : ℕ) (test : ℕ × A → Bool) whe
   pub find-row : (l : List ℕ) → List·Memᴰ x l → All (λ y. (i : ℕ) → test (i, row y) ≡ eqb y x) l → find test (enumerate (map row l)) ≡ some (indexOf x l, row x)
   find-row l m h = let e : 0 + indexOf x l ≡ indexOf x l = omega arith in find-from 0 l m h ∙ ap (λ (k : ℕ). some (k, row x)) e
 
--- ---- what is kept of a list
-
-module _ {A B : Type 0} (f : A → B) (p : B → Bool) (q : A → Bool) where
-  pub retain-map : (l : List A) → All (λ x. p (f x) ≡ q x) l → retain p (map f l) ≡ map f (retain q l)
-  unfolding retain
-  retain-map [] h = refl
-  retain-map (x ∷ l) h = ap (λ (b : Bool). if b then f x ∷ retain p (map f l) else retain p (map f l)) (h .0) ∙ go (q x) (retain-map l (h .1))
-    where
-      go : (b : Bool) → retain p (map f l) ≡ map f (retain q l) → (if b then f x ∷ retain p (map f l) else retain p (map f l)) ≡ map f (if b then x ∷ retain q l else retain q l)
-      go true e = ap (λ (r : List B). f x ∷ r) e
-      go false e = e
-
-pub length-retain : {A : Type 0} (p : A → Bool) (l : List A) → length (retain p l) ≤ length l
-unfolding retain
-length-retain p [] = omega arith
-length-retain {A} p (x ∷ l) = go (p x) (length-retain p l)
-  where
-    go : (b : Bool) → length (retain p l) ≤ length l → length (if b then x ∷ retain p l else retain p l) ≤ suc (length l)
-    go true h = omega arith
-    go false h = omega arith
-
 -- ---- the numbers that are not among some
 
 some-numbered : (k : ℕ) (ks : List ℕ) → List·Memᴰ k ks → elem k ks ≡ true
@@ -120,7 +99,7 @@ others-perm ks rest n p =
     retain-none q ks (all-map (λ k. List·Memᴰ k ks) (λ k. T (not (q k))) (λ k m. subst (λ (b : Bool). T (not (not b))) (sym (some-numbered k ks m)) tt) ks (all-self ks))
     in
     let stay : retain q rest ≡ rest =
-    retain-all q rest (all-map (λ k. All (Other k) ks) (λ k. T (q k)) (λ k h. subst (λ (b : Bool). T (not b)) (sym (none-numbered k ks h)) tt) rest (pairs-append Other rest ks apart))
+    retain-all q rest (all-map (λ k. All (Other k) ks) (λ k. T (q k)) (λ k h. subst (λ (b : Bool). T (not b)) (sym (none-numbered k ks h)) tt) rest (pairs-across Other rest ks apart))
     in
     let left : Perm (retain q (range n)) rest = rw (retain-append q ks rest, gone, stay) at (retain-perm q (perm-sym p)) in
     also (perm-append-left ks left) p

@@ -1,33 +1,28 @@
 -- Insertions and unused cuts pushed one after the other, as the loops push them.
-use Prim.Native.Nat.{ℕ, zero, suc, _+_, _≤_, _<_}
+use Prim.Native.Nat.{ℕ, suc, _+_, _≤_, _<_}
 use native.Mathlib.Numerals.{add-one}
 use native.Mathlib.Omega.{arith}
 use mathlib.Core.Path.{_≡_, refl, sym, ap, _∙_}
 use mathlib.Core.Bool.{Bool, true, false, not}
 use mathlib.Core.List.{List, [], _∷_, _++_, map, append-nil, append-assoc}
-use lib.ListN.{length, getD, set, take, drop, length-set, drop-of-length-le}
-use lib.Seq.{take-suc-set}
+use lib.ListN.{length, getD, take, drop, length-set, drop-of-length-le}
 use borrow.Author.Tests.{eq-eqb, ne-eqb}
 use Rattle.lists.specs.Base.{if_then_else_, foldl, retain, countFrom, range}
 use Rattle.lists.proofs.Sums.{map-append}
-use Rattle.trust.proofs.Crossover.{retain-append}
+use Rattle.lists.proofs.Kept.{retain-append}
+use Rattle.lists.proofs.Counts.{count-snoc}
+use Rattle.lists.proofs.Arrays.{drop-next, take-next, take-push}
+use Rattle.lists.proofs.Maps.{foldl-snoc}
 use Rattle.model.specs.declared.BaselineGuillotineHeuristic.{BaselineGuillotineHeuristic}
 use Rattle.candidate.specs.declared.Candidate.{Candidate as Words}
-use Rattle.candidate.specs.Entries.{boardOf, cutOf, insertionWord, onBoard}
+use Rattle.candidate.specs.Entries.{boardOf, cutOf, onBoard}
 use Rattle.candidate.specs.Moves.{withInsertion, withUnused}
 use Rattle.candidate.specs.Stands.{placedWords, unusedNumbers}
-use Rattle.candidate.proofs.Lists.{count-snoc}
 use Rattle.candidate.proofs.Makings.{on-same, on-other}
 use Rattle.evaluation.specs.Keys.{elem}
-use Rattle.evaluation.proofs.Walks.{drop-next, take-next}
 use Rattle.donor.specs.Donated.{withInsertions, withUnusedCuts, anew, donated, othersThan, indexOf}
 
 -- ---- one push more
-
-foldl-snoc : {A B : Type 0} (f : B → A → B) (b : B) (xs : List A) (x : A) → foldl f b (xs ++ (x ∷ [])) ≡ f (foldl f b xs) x
-unfolding foldl
-foldl-snoc f b [] x = refl
-foldl-snoc f b (y ∷ xs) x = foldl-snoc f (f b y) xs x
 
 pub insertions-more : (k : Words) (words : List ℕ) (w : ℕ) → withInsertions k (words ++ (w ∷ [])) ≡ withInsertion (withInsertions k words) w
 unfolding withInsertions
@@ -38,9 +33,6 @@ unfolding withUnusedCuts
 unused-more k cuts x = foldl-snoc withUnused k cuts x
 
 -- ---- what pushes leave
-
-stored : (a : List ℕ) (n v : ℕ) → n < length a → take (n + 1) (set a n v) ≡ take n a ++ (v ∷ [])
-stored a n v room = ap (λ (m : ℕ). take m (set a n v)) (add-one n) ∙ take-suc-set a n v room
 
 pub record Inserted (k : Words) (words : List ℕ) (r : Words) : Type 0 where
   pub boards : r .boards ≡ k .boards
@@ -59,7 +51,7 @@ inserted k (w ∷ words) h =
       boards = next .boards;
       sheets = next .sheets;
       placed = omega (arith, next .placed);
-      insertions = next .insertions ∙ ap (λ (l : List ℕ). l ++ words) (stored (k .insertions) (k .placed) w (omega arith)) ∙ append-assoc (placedWords k) (w ∷ []) words;
+      insertions = next .insertions ∙ ap (λ (l : List ℕ). l ++ words) (take-push (k .placed) (k .insertions) w (omega arith)) ∙ append-assoc (placedWords k) (w ∷ []) words;
       unused = next .unused;
       count = next .count;
     }
@@ -82,7 +74,7 @@ unplaced k (x ∷ cuts) h =
       sheets = next .sheets;
       placed = next .placed;
       insertions = next .insertions;
-      unused = next .unused ∙ ap (λ (l : List ℕ). l ++ cuts) (stored (k .unused) (k .«unused_count») x (omega arith)) ∙ append-assoc (unusedNumbers k) (x ∷ []) cuts;
+      unused = next .unused ∙ ap (λ (l : List ℕ). l ++ cuts) (take-push (k .«unused_count») (k .unused) x (omega arith)) ∙ append-assoc (unusedNumbers k) (x ∷ []) cuts;
       count = omega (arith, next .count);
     }
 
@@ -94,7 +86,7 @@ module _ (k : Words) (words : List ℕ) (board i : ℕ) (h : BaselineGuillotineH
   donated-here there =
       ap (λ (x : Words). withInsertion x (anew board h (getD words i 0))) so-far
       ∙ sym (insertions-more k (map (anew board h) (onBoard board (take i words))) (anew board h (getD words i 0)))
-      ∙ ap (withInsertions k) (sym (ap (λ (l : List ℕ). map (anew board h) (onBoard board l)) (take-next words i here)
+      ∙ ap (withInsertions k) (sym (ap (λ (l : List ℕ). map (anew board h) (onBoard board l)) (take-next words i 0 here)
       ∙ ap (map (anew board h)) (on-same (take i words) (getD words i 0) board there)
       ∙ map-append (anew board h) (onBoard board (take i words)) (getD words i 0 ∷ [])))
 
@@ -102,7 +94,7 @@ module _ (k : Words) (words : List ℕ) (board i : ℕ) (h : BaselineGuillotineH
   unfolding donated
   donated-aside aside =
       so-far
-      ∙ ap (λ (l : List ℕ). withInsertions k (map (anew board h) l)) (sym (ap (onBoard board) (take-next words i here) ∙ on-other (take i words) (getD words i 0) board aside))
+      ∙ ap (λ (l : List ℕ). withInsertions k (map (anew board h) l)) (sym (ap (onBoard board) (take-next words i 0 here) ∙ on-other (take i words) (getD words i 0) board aside))
 
 -- ---- the loop over the catalogue
 
@@ -128,11 +120,11 @@ module _ (k : Words) (ks : List ℕ) (i : ℕ) (after : Words) (so-far : after �
 module _ (x : ℕ) (l : List ℕ) (i : ℕ) where
   pub index-hit : i < length l → getD l i 0 ≡ x → indexOf x (drop i l) ≡ 0
   unfolding indexOf
-  index-hit h e = rw (drop-next l i h, eq-eqb (getD l i 0) x e)
+  index-hit h e = rw (drop-next l i 0 h, eq-eqb (getD l i 0) x e)
 
   pub index-miss : i < length l → (getD l i 0 ≡ x → ⊥) → indexOf x (drop i l) ≡ suc (indexOf x (drop (i + 1) l))
   unfolding indexOf
-  index-miss h e = rw (drop-next l i h, ne-eqb (getD l i 0) x e)
+  index-miss h e = rw (drop-next l i 0 h, ne-eqb (getD l i 0) x e)
 
   pub index-end : length l ≤ i → indexOf x (drop i l) ≡ 0
   unfolding indexOf

@@ -1,91 +1,26 @@
 -- The index of the first best sheet, and the sheet that the definition picks.
-use Prim.Native.Nat.{ℕ, zero, suc, _+_, _-_, _≤_, _<_}
-use native.Mathlib.Nat.{le-of-suc-le-suc, not-suc-le-zero}
+use Prim.Native.Nat.{ℕ, suc, _+_, _-_, _≤_, _<_}
 use native.Mathlib.Numerals.{add-one}
 use native.Mathlib.Omega.{arith}
-use mathlib.Core.Path.{_≡_, refl, sym, ap, ap₂, _∙_, subst}
+use mathlib.Core.Path.{_≡_, refl, sym, ap, ap₂, _∙_}
 use mathlib.Core.Bool.{Bool, true, false}
-use mathlib.Core.List.{List, [], _∷_, map}
-use mathlib.Core.Option.{Option, some, Option·some-injective, Option·none-ne-some}
+use mathlib.Core.List.{List, map}
+use mathlib.Core.Option.{Option, some}
 use lib.ListN.{length, getD, take}
 use lib.Seq.{getD-take}
 use lib.Ieee.{Float}
-use Rattle.lists.specs.Base.{if_then_else_, isLess, isGreater, countFrom, range, enumerateFrom, enumerate, keepBest, firstBest}
-use Rattle.lists.proofs.Perm.{All, all-map}
-use Rattle.lists.proofs.Sums.{length-countFrom}
-use Rattle.model.specs.Types.{stockArea}
+use Rattle.lists.specs.Base.{if_then_else_, isLess, isGreater, countFrom, range, enumerate, keepBest, firstBest}
+use Rattle.lists.proofs.Every.{all-any}
+use Rattle.lists.proofs.Counts.{range-below, enumerate-range, values}
+use Rattle.lists.proofs.Maps.{firstBest-map, getD-map}
 use Rattle.model.specs.Sheet.{GuillotineSheet, placedArea}
 use Rattle.model.specs.Fitness.{sheetFitness, compareFloat}
 use Rattle.model.specs.Candidate.{Candidate, worstBin}
 use Rattle.model.specs.Search.{bestDonorBin}
-use Rattle.trust.proofs.Lists.{all-any}
 use Rattle.fitness.specs.Areas.{shareOf}
 use Rattle.fitness.proofs.Sheets.{boardArea, sheetFitness-areas}
-use Rattle.candidate.proofs.Lists.{range-below, map-same}
 use Rattle.evaluation.specs.declared.Areas.{Areas}
 use Rattle.evaluation.specs.OnSheets.{AreasOf, shareAt, noBin, IsWorst, bestDonor, IsBestDonor}
-
--- ---- the first best of a list that is mapped
-
-module _ {A B : Type 0} (f : A → B) (R : A → A → Bool) (S : B → B → Bool) (P : A → Type 0) (agree : (a b : A) → P a → P b → S (f a) (f b) ≡ R a b) where
-  keepBest-map : (x : A) (xs : List A) → P x → All P xs → keepBest S (f x) (map f xs) ≡ f (keepBest R x xs)
-  unfolding keepBest
-  keepBest-map x [] h k = refl
-  keepBest-map x (y ∷ xs) h k =
-      ap (λ (b : Bool). keepBest S (if b then f y else f x) (map f xs)) (agree y x (k .0) h) ∙ go (R y x) (keepBest-map y xs (k .0) (k .1)) (keepBest-map x xs h (k .1))
-    where
-      go : (b : Bool) → keepBest S (f y) (map f xs) ≡ f (keepBest R y xs) → keepBest S (f x) (map f xs) ≡ f (keepBest R x xs)
-          → keepBest S (if b then f y else f x) (map f xs) ≡ f (keepBest R (if b then y else x) xs)
-      go true e g = e
-      go false e g = g
-
-  pub firstBest-map : (xs : List A) (a : A) → All P xs → firstBest R xs ≡ some a → firstBest S (map f xs) ≡ some (f a)
-  unfolding firstBest
-  firstBest-map [] a h e = absurd (Option·none-ne-some a e)
-  firstBest-map (x ∷ xs) a h e = ap {B = Option B} some (keepBest-map x xs (h .0) (h .1) ∙ ap f (Option·some-injective _ _ e))
-
--- ---- a list by its indexes
-
-count-suc : (i n : ℕ) → countFrom (suc i) n ≡ map suc (countFrom i n)
-unfolding countFrom
-count-suc i zero = refl
-count-suc i (suc n) = ap {B = List ℕ} (λ r. suc i ∷ r) (count-suc (suc i) n)
-
-pub map-map : {A B C : Type 0} (g : B → C) (f : A → B) (l : List A) → map g (map f l) ≡ map (λ x. g (f x)) l
-map-map g f [] = refl
-map-map {C} g f (x ∷ l) = ap {B = List C} (λ r. g (f x) ∷ r) (map-map g f l)
-
-pub getD-map : {A B : Type 0} (f : A → B) (l : List A) (k : ℕ) (e : B) (d : A) → k < length l → getD (map f l) k e ≡ f (getD l k d)
-getD-map f [] k e d h = absurd (not-suc-le-zero h)
-getD-map f (x ∷ l) zero e d h = refl
-getD-map f (x ∷ l) (suc k) e d h = getD-map f l k e d (le-of-suc-le-suc h)
-
-module _ {A : Type 0} (d : A) where
-  enumerateFrom-range : (i : ℕ) (xs : List A) → enumerateFrom i xs ≡ map (λ k. (i + k, getD xs k d)) (range (length xs))
-  unfolding enumerateFrom countFrom
-  enumerateFrom-range i [] = refl
-  enumerateFrom-range i (x ∷ xs) =
-      let here : i ≡ i + 0 = omega arith in
-      let at : ℕ → ℕ × A = λ k. (i + k, getD (x ∷ xs) k d) in
-      let behind : enumerateFrom (suc i) xs ≡ map at (countFrom 1 (length xs)) =
-      enumerateFrom-range (suc i) xs
-      ∙ map-same (λ k. at (suc k)) (λ k. (suc i + k, getD xs k d)) (range (length xs))
-      (all-map (λ k. Unit {0}) (λ k. (suc i + k, getD xs k d) ≡ at (suc k)) (λ k u. let e : suc i + k ≡ i + suc k = omega arith in ap (λ (m : ℕ). (m, getD xs k d)) e) (range (length xs)) (all-any (range (length xs))))
-      ∙ sym (map-map at suc (range (length xs)))
-      ∙ ap (map at) (sym (count-suc 0 (length xs)))
-      in
-      ap₂ {C = List (ℕ × A)} (λ m r. (m, x) ∷ r) here behind
-
-  pub enumerate-range : (xs : List A) → enumerate xs ≡ map (λ k. (k, getD xs k d)) (range (length xs))
-  enumerate-range xs =
-      enumerateFrom-range 0 xs
-      ∙ map-same (λ k. (k, getD xs k d)) (λ k. (0 + k, getD xs k d)) (range (length xs))
-      (all-map (λ k. Unit {0}) (λ k. (0 + k, getD xs k d) ≡ (k, getD xs k d)) (λ k u. let e : 0 + k ≡ k = omega arith in ap (λ (m : ℕ). (m, getD xs k d)) e) (range (length xs)) (all-any (range (length xs))))
-
-pub values : {A : Type 0} (i : ℕ) (xs : List A) → map (λ e. e .1) (enumerateFrom i xs) ≡ xs
-unfolding enumerateFrom
-values i [] = refl
-values {A} i (x ∷ xs) = ap {B = List A} (λ r. x ∷ r) (values (suc i) xs)
 
 -- ---- the loop over the sheets
 

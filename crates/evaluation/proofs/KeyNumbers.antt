@@ -1,7 +1,6 @@
 -- Where keys are distinct, two numbers are equal exactly if their keys are: tests of keys are tests of numbers.
 use Prim.Native.Nat.{ℕ, zero, suc, _<_}
 use native.Mathlib.Nat.{le-of-suc-le-suc, not-suc-le-zero}
-use native.Mathlib.Omega.{arith}
 use mathlib.Core.Path.{_≡_, refl, sym, ap, ap₂, _∙_, subst}
 use mathlib.Core.Bool.{Bool, true, false, not, _||_}
 use mathlib.Core.List.{List, [], _∷_, map}
@@ -10,14 +9,15 @@ use lib.ListN.{length, getD}
 use borrow.Author.Tests.{ne-eqb, eqb-true, eqb-false}
 use Rattle.lists.specs.Base.{any}
 use Rattle.lists.proofs.Perm.{All, Pairs}
+use Rattle.lists.proofs.Booleans.{is-true, is-false}
+use Rattle.lists.proofs.Every.{all-get}
 use Rattle.model.specs.declared.CutInstance.{CutInstance}
 use Rattle.model.specs.declared.InstanceKey.{InstanceKey}
 use Rattle.model.specs.Types.{sameKey, cutKey}
 use Rattle.model.specs.Candidate.{containsKey, hasDuplicateKeys}
 use Rattle.trust.proofs.Candidate.{Differ, sameKey-refl}
 use Rattle.trust.proofs.Crossover.{key-sym}
-use Rattle.trust.proofs.Keys.{is-true, is-false}
-use Rattle.candidate.proofs.Lists.{Other, all-get}
+use Rattle.candidate.proofs.Lists.{Other}
 use Rattle.evaluation.specs.Keys.{elem, repeats}
 
 -- ---- one key

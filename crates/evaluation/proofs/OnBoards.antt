@@ -1,63 +1,20 @@
 -- The areas on the boards, as the loop over the insertions sums them up.
-use Prim.Native.Nat.{ℕ, zero, suc, _+_, _^_, _≤_, _<_}
-use native.Mathlib.Nat.{le-of-suc-le-suc, not-suc-le-zero}
+use Prim.Native.Nat.{ℕ, _+_, _≤_, _<_}
 use native.Mathlib.Omega.{arith}
-use mathlib.Core.Path.{_≡_, refl, sym, ap, _∙_, subst}
-use mathlib.Core.Bool.{Bool, true, false, not}
-use mathlib.Core.List.{List, [], _∷_, _++_, map}
+use mathlib.Core.Path.{_≡_, refl, sym, ap, _∙_}
+use mathlib.Core.Bool.{Bool, true, false}
+use mathlib.Core.List.{List, [], _∷_, map}
 use lib.Dec.{eqb}
-use lib.ListN.{length, getD, set, take, drop, replicate, length-set, length-replicate, getD-replicate, take-append-drop}
+use lib.ListN.{length, getD, set, take, length-set}
 use lib.Seq.{take-length, getD-set-same, getD-set-other, ext-getD}
 use borrow.Author.Tests.{eq-eqb, ne-eqb, eqb-true, eqb-false}
-use Rattle.lists.specs.Base.{if_then_else_, sum, countFrom, range, retain}
-use Rattle.lists.proofs.Perm.{Perm, done, keep, also, perm-middle}
-use Rattle.lists.proofs.Sums.{length-countFrom, length-map, map-append, sum-append}
-use Rattle.trust.proofs.Crossover.{retain-append}
+use Rattle.lists.specs.Base.{if_then_else_, sum, range, retain}
+use Rattle.lists.proofs.Sums.{sum-append}
+use Rattle.lists.proofs.Kept.{retain-append, sum-retain}
+use Rattle.lists.proofs.Counts.{getD-range, length-count-map}
+use Rattle.lists.proofs.Arrays.{sum-take, take-next}
 use Rattle.candidate.specs.Entries.{boardOf, onBoard}
 use Rattle.evaluation.specs.OnSheets.{wordArea, placedOn}
-use Rattle.evaluation.proofs.Walks.{take-next}
-
--- ---- the first numbers
-
-getD-countFrom : {A : Type 0} (f : ℕ → A) (d : A) (i n k : ℕ) → k < n → getD (map f (countFrom i n)) k d ≡ f (i + k)
-unfolding countFrom
-getD-countFrom f d i zero k h = absurd (not-suc-le-zero h)
-getD-countFrom f d i (suc n) zero h = let e : i ≡ i + 0 = omega arith in ap f e
-getD-countFrom f d i (suc n) (suc k) h =
-    let e : suc i + k ≡ i + suc k = omega arith in
-    getD-countFrom f d (suc i) n k (le-of-suc-le-suc h) ∙ ap f e
-
-pub getD-range : {A : Type 0} (f : ℕ → A) (d : A) (n k : ℕ) → k < n → getD (map f (range n)) k d ≡ f k
-getD-range f d n k h = let e : 0 + k ≡ k = omega arith in getD-countFrom f d 0 n k h ∙ ap f e
-
-pub length-range-map : {A : Type 0} (f : ℕ → A) (n : ℕ) → length (map f (range n)) ≡ n
-length-range-map f n = length-map f (range n) ∙ length-countFrom 0 n
-
--- ---- a list in two parts
-
-pub parted : {A : Type 0} (p : A → Bool) (l : List A) → Perm (retain (λ x. not (p x)) l ++ retain p l) l
-unfolding retain
-parted p [] = done
-parted {A} p (x ∷ l) = go (p x) (parted p l)
-  where
-    go : (b : Bool) → Perm (retain (λ y. not (p y)) l ++ retain p l) l
-        → Perm ((if not b then x ∷ retain (λ y. not (p y)) l else retain (λ y. not (p y)) l) ++ (if b then x ∷ retain p l else retain p l)) (x ∷ l)
-    go true h = also (perm-middle (retain (λ y. not (p y)) l) x (retain p l)) (keep x h)
-    go false h = keep x h
-
--- ---- sums of parts
-
-sum-retain : (f : ℕ → ℕ) (p : ℕ → Bool) (l : List ℕ) → sum (map f (retain p l)) ≤ sum (map f l)
-unfolding sum retain
-sum-retain f p [] = omega arith
-sum-retain f p (x ∷ l) = go (p x) (sum-retain f p l)
-  where
-    go : (b : Bool) → sum (map f (retain p l)) ≤ sum (map f l) → sum (map f (if b then x ∷ retain p l else retain p l)) ≤ f x + sum (map f l)
-    go true h = omega arith
-    go false h = omega arith
-
-sum-take : (f : ℕ → ℕ) (n : ℕ) (l : List ℕ) → sum (map f (take n l)) ≤ sum (map f l)
-sum-take f n l = omega (arith, sum-append f (take n l) (drop n l), ap (λ (r : List ℕ). sum (map f r)) (take-append-drop n l))
 
 -- ---- one more insertion
 
@@ -70,7 +27,7 @@ module _ (cuts words : List ℕ) (i board : ℕ) (here : i < length words) where
   placed-one b e =
       let p : ℕ → Bool = λ w. eqb (boardOf w) board in
       let f : ℕ → ℕ = wordArea cuts in
-      ap (λ (l : List ℕ). sum (map f (retain p l))) (take-next words i here)
+      ap (λ (l : List ℕ). sum (map f (retain p l))) (take-next words i 0 here)
       ∙ ap (λ (l : List ℕ). sum (map f l)) (retain-append p (take i words) (word ∷ []))
       ∙ sum-append f (retain p (take i words)) (retain p (word ∷ []))
       ∙ ap (λ (n : ℕ). sum (map f (retain p (take i words))) + n) (one b e)
@@ -125,6 +82,6 @@ pub summed-all : (cuts words areas : List ℕ) (i : ℕ) → length words ≤ i 
 summed-all cuts words areas i past most h =
     let e : i ≡ length words = omega arith in
     let whole : take i words ≡ words = ap (λ (n : ℕ). take n words) e ∙ take-length words in
-    ext-getD 0 areas (map (placedOn cuts words) (range 64)) (h .0 ∙ sym (length-range-map (placedOn cuts words) 64)) λ b k.
+    ext-getD 0 areas (map (placedOn cuts words) (range 64)) (h .0 ∙ sym (length-count-map (placedOn cuts words) 0 64)) λ b k.
     let under : b < 64 = omega (arith, h .0) in
     h .1 b under ∙ ap (λ (l : List ℕ). placedOn cuts l b) whole ∙ sym (getD-range (placedOn cuts words) 0 64 b under)

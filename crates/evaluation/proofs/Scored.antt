@@ -1,9 +1,9 @@
 -- The score of a candidate of words, by the areas of its sheets.
-use Prim.Native.Nat.{ℕ, _+_, _*_, _-_, _^_, _≤_, _<_}
+use Prim.Native.Nat.{ℕ, _-_, _≤_, _<_}
 use native.Mathlib.Nat.{mul-pos}
 use native.Mathlib.Omega.{arith}
-use mathlib.Core.Path.{_≡_, refl, sym, ap, ap₂, _∙_, subst}
-use mathlib.Core.List.{List, [], _∷_, map}
+use mathlib.Core.Path.{_≡_, sym, ap, ap₂, _∙_}
+use mathlib.Core.List.{List, [], map}
 use mathlib.Core.Option.{Option, none, some, Option·getD}
 use lib.Dec.{eqb}
 use lib.ListN.{length, take}
@@ -13,13 +13,11 @@ use Rattle.lists.proofs.Perm.{All, all-map}
 use Rattle.lists.proofs.Sums.{length-map}
 use Rattle.model.specs.Sheet.{GuillotineSheet, placedArea}
 use Rattle.model.specs.Fitness.{positiveZero, usedStockArea, fitness}
-use Rattle.model.specs.Candidate.{CandidateScore as Score}
 use Rattle.model.specs.Expand.{ProblemInstance}
 use Rattle.trust.specs.Limits.{mostAreas}
 use Rattle.trust.proofs.Proper.{SheetProper}
 use Rattle.trust.proofs.Scores.{placedAreas, placed-areas-most, score-is}
 use Rattle.trust.proofs.CandidateSize.{candidate-counts}
-use Rattle.fitness.specs.declared.CandidateScore.{CandidateScore}
 use Rattle.fitness.specs.Areas.{fitnessOf}
 use Rattle.fitness.specs.Scores.{scoreOf}
 use Rattle.fitness.proofs.Sheets.{boardArea, usedStockArea-areas, fitness-areas, fitness-counted}

@@ -1,45 +1,39 @@
 -- The sheets of a candidate of words: their numbers are in the tables, their pieces are their boards' insertions, and their areas come from those.
-use Prim.Native.Nat.{ℕ, _+_, _*_, _^_, _≤_, _<_}
-use native.Mathlib.Nat.{le-trans}
+use Prim.Native.Nat.{ℕ, _≤_, _<_}
 use native.Mathlib.Omega.{arith}
-use mathlib.Core.Path.{_≡_, refl, sym, ap, ap₂, _∙_, subst}
+use mathlib.Core.Path.{_≡_, sym, ap, _∙_, subst}
 use mathlib.Core.Bool.{Bool}
-use mathlib.Core.List.{List, [], _∷_, _++_, map, append-nil, append-assoc, List·Memᴰ}
-use mathlib.Core.Option.{Option, none, some, Option·some-injective, Option·none-ne-some}
+use mathlib.Core.List.{List, _++_, map, List·Memᴰ}
+use mathlib.Core.Option.{some}
 use lib.Dec.{T, eqb}
 use lib.ListN.{length, getD, take, length-take}
-use lib.Seq.{length-take-le, getD-take, take-take}
-use Rattle.lists.specs.Base.{_>>=_, sum, range, retain, foldOption}
-use Rattle.lists.proofs.Perm.{Perm, perm-sym, All, all-map, all-both, all-left, all-perm, sum-perm, in-all}
+use lib.Seq.{getD-take}
+use Rattle.lists.specs.Base.{sum, range, retain}
+use Rattle.lists.proofs.Perm.{perm-sym, All, all-map, all-both, all-left, all-perm, sum-perm, in-all}
 use Rattle.lists.proofs.Sums.{length-map, sum-append}
+use Rattle.lists.proofs.Kept.{retain-sub}
+use Rattle.lists.proofs.Counts.{range-below, getD-range, length-count-map}
+use Rattle.lists.proofs.Every.{all-get, get-mem, all-of-map}
+use Rattle.lists.proofs.Maps.{map-same, map-map, getD-map}
 use Rattle.model.specs.declared.StockInstance.{StockInstance}
 use Rattle.model.specs.declared.CutInstance.{CutInstance}
 use Rattle.model.specs.Types.{cutArea, stockArea}
-use Rattle.model.specs.Sheet.{GuillotineSheet, Insertion, newSheet, tryInsert, rebuild, makingOf, placedArea}
-use Rattle.model.specs.Candidate.{Candidate}
+use Rattle.model.specs.Sheet.{GuillotineSheet, Insertion, newSheet, rebuild, makingOf, placedArea}
 use Rattle.model.specs.Expand.{ProblemInstance}
 use Rattle.trust.specs.Limits.{mostAreas}
-use Rattle.trust.proofs.Candidate.{cutsOf, placedCuts}
-use Rattle.trust.proofs.Sheet.{tryInsert-inserted}
-use Rattle.trust.proofs.Lists.{retain-sub}
+use Rattle.trust.proofs.Candidate.{cutsOf}
+use Rattle.trust.proofs.Sheet.{all-inserted}
 use Rattle.trust.proofs.Proper.{SheetProper}
 use Rattle.trust.proofs.Scores.{sheet-area}
 use Rattle.trust.proofs.CandidateSize.{cut-area-most}
-use Rattle.orders.specs.Rows.{stockWords, cutWords, stockAt, cutAt}
+use Rattle.orders.specs.Rows.{stockAt, cutAt}
 use Rattle.candidate.specs.declared.Instance.{Instance}
 use Rattle.candidate.specs.declared.Candidate.{Candidate as Words}
-use Rattle.candidate.specs.Entries.{boardOf, cutOf, rowOf, onBoard}
+use Rattle.candidate.specs.Entries.{boardOf, cutOf, onBoard}
 use Rattle.candidate.specs.Stands.{instanceIn, Tables, boardIn, cutIn, noStock, noCut, insertionIn, makingIn, binIn, sheetBoards, availableBoards, placedWords, unusedNumbers, candidateIn, Stands}
-use Rattle.candidate.proofs.Lists.{range-below, all-get, get-mem, map-same}
 use Rattle.candidate.proofs.Standing.{length-sheets, boards-split, boards-below}
 use Rattle.evaluation.specs.declared.Areas.{Areas}
 use Rattle.evaluation.specs.OnSheets.{wordArea, placedOn, InTables, AreasOf, noBin}
-use Rattle.evaluation.proofs.OnBoards.{getD-range, length-range-map}
-use Rattle.evaluation.proofs.BestIndex.{map-map, getD-map}
-
-pub all-unmap : {A B : Type 0} (P : B → Type 0) (f : A → B) (l : List A) → All P (map f l) → All (λ x. P (f x)) l
-all-unmap P f [] h = tt
-all-unmap P f (x ∷ l) h = (h .0, all-unmap P f l (h .1))
 
 -- ---- the instance that two tables show
 
@@ -49,11 +43,11 @@ module _ (stock cuts : List ℕ) (n : Instance) where
 
   pub stock-count : length (inst .stock) ≡ n .stock
   unfolding instanceIn
-  stock-count = length-range-map (stockAt stock) (n .stock)
+  stock-count = length-count-map (stockAt stock) 0 (n .stock)
 
   pub cut-count : length (inst .cuts) ≡ n .cuts
   unfolding instanceIn
-  cut-count = length-range-map (cutAt cuts) (n .cuts)
+  cut-count = length-count-map (cutAt cuts) 0 (n .cuts)
 
   pub board-known : (b : ℕ) → b < n .stock → boardIn inst b ≡ stockAt stock b
   unfolding instanceIn boardIn
@@ -70,25 +64,9 @@ pub record Made (board : StockInstance) (is : List Insertion) (t : GuillotineShe
   pub making : makingOf t ≡ is
 
 module _ (kerf : ℕ) where
-  again : (s t : GuillotineSheet) (is : List Insertion) → foldOption (tryInsert kerf) s is ≡ some t → Made (s .stock) (makingOf s ++ is) t
-  unfolding foldOption
-  again s t [] e = subst (Made (s .stock) (makingOf s ++ [])) (Option·some-injective s t e) (record { stock = refl; making = sym (append-nil (makingOf s)) })
-  again s t (i ∷ is) e = go (tryInsert kerf s i) refl e (λ u. again u t is)
-    where
-      go : (o : Option GuillotineSheet) → tryInsert kerf s i ≡ o → (o >>= λ u. foldOption (tryInsert kerf) u is) ≡ some t
-          → ((u : GuillotineSheet) → foldOption (tryInsert kerf) u is ≡ some t → Made (u .stock) (makingOf u ++ is) t) → Made (s .stock) (makingOf s ++ (i ∷ is)) t
-      go none f k later = absurd (Option·none-ne-some t k)
-      go (some u) f k later =
-          let m = later u k in
-          let g = tryInsert-inserted kerf s i u f in
-          record {
-            stock = m .stock ∙ g .sameStock;
-            making = m .making ∙ ap (λ (l : List Insertion). l ++ is) (g .grown) ∙ append-assoc (makingOf s) (i ∷ []) is;
-          }
-
   pub rebuild-made : (board : StockInstance) (making : List Insertion) (t : GuillotineSheet) → rebuild kerf board making ≡ some t → Made board making t
   unfolding rebuild newSheet makingOf
-  rebuild-made board making t e = again (newSheet board) t making e
+  rebuild-made board making t e = let m = all-inserted kerf (newSheet board) t making e in record { stock = m .sameStock; making = m .grown }
 
 -- ---- a sheet of a candidate
 
@@ -116,7 +94,7 @@ module _ (inst : ProblemInstance) (later : List ℕ) (c : Words) (s : Stands ins
 
   pub bins-proper : All (λ b. SheetProper (inst .kerfWidth) (binIn inst words b)) (sheetBoards c)
   unfolding candidateIn
-  bins-proper = all-unmap (SheetProper (inst .kerfWidth)) (binIn inst words) (sheetBoards c) (s .proper .kept .sheets)
+  bins-proper = all-of-map (SheetProper (inst .kerfWidth)) (binIn inst words) (sheetBoards c) (s .proper .kept .sheets)
 
 -- the sheet at an index
 pub record BinAt (inst : ProblemInstance) (c : Words) (k : ℕ) : Type 0 where
@@ -169,7 +147,7 @@ module _ (stock cuts : List ℕ) (n : Instance) (later : List ℕ) (c : Words) (
   -- so is an insertion's cut
   pub cuts-known : All (λ w. cutOf w < n .cuts) (placedWords c)
   cuts-known =
-      all-unmap (λ k. k < n .cuts) cutOf (placedWords c)
+      all-of-map (λ k. k < n .cuts) cutOf (placedWords c)
       (all-map (λ k. k < length (shown .cuts)) (λ k. k < n .cuts) (λ k h. omega (arith, cut-count stock cuts n)) (map cutOf (placedWords c))
       (all-left (λ k. k < length (shown .cuts)) (map cutOf (placedWords c)) (unusedNumbers c ++ later)
       (all-perm (λ k. k < length (shown .cuts)) (perm-sym (s .cuts)) (range-below (length (shown .cuts))))))

@@ -1,12 +1,11 @@
 -- The areas of a candidate's sheets, and the sheet that is first best by them.
 use Prim.Native.Nat.{ℕ, _+_, _*_, _≤_, _<_}
 use mathlib.Core.Path.{_≡_}
-use mathlib.Core.Bool.{Bool}
 use mathlib.Core.List.{List, map}
 use mathlib.Core.Option.{Option, some}
 use lib.ListN.{length, getD, take}
 use lib.Ieee.{Float}
-use Rattle.lists.specs.Base.{sum, range, isGreater, enumerate, firstBest}
+use Rattle.lists.specs.Base.{sum, isGreater, enumerate, firstBest}
 use Rattle.model.specs.Types.{cutArea, stockArea}
 use Rattle.model.specs.Sheet.{GuillotineSheet, newSheet, placedArea}
 use Rattle.model.specs.Fitness.{sheetFitness, compareFloat}

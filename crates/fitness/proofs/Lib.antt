@@ -1,4 +1,3 @@
-pub mod Product
 pub mod Order
 pub mod Shares
 pub mod Sheets

@@ -1,34 +1,16 @@
--- How two numbers compare, and the order of two scores by each of the ways out of the comparing functions.
-use mathlib.Core.Path.{_≡_, refl, _∙_}
+-- The order of two scores by each of the ways out of the comparing functions.
+use mathlib.Core.Path.{_≡_, refl}
 use mathlib.Core.Bool.{Bool, true, false}
-use Prim.Native.Nat.{ℕ, zero, suc, _<_, compare, Ordering·lt, Ordering·eq, Ordering·gt, compare·zero-zero, compare·zero-suc, compare·suc-zero, compare·suc-suc}
-use native.Mathlib.Nat.{le-of-suc-le-suc}
+use Prim.Native.Nat.{_<_, Ordering·lt, Ordering·eq, Ordering·gt}
 use native.Mathlib.Omega.{arith}
 use borrow.Author.Tests.{eq-eqb, ne-eqb}
 use lib.Ieee.{Float, lt}
 use Rattle.lists.specs.Base.{if_then_else_, isLess}
+use Rattle.lists.proofs.Preorder.{compare-is}
 use Rattle.model.specs.Fitness.{compareFloat, compareFitness}
 use Rattle.model.specs.Candidate.{compareScore}
 use Rattle.fitness.specs.declared.CandidateScore.{CandidateScore}
 use Rattle.fitness.specs.Scores.{scoreOf}
-
-compare-lt : (a b : ℕ) → a < b → compare a b ≡ Ordering·lt
-compare-lt zero zero h = absurd (omega arith)
-compare-lt zero (suc b) h = compare·zero-suc b
-compare-lt (suc a) zero h = absurd (omega arith)
-compare-lt (suc a) (suc b) h = compare·suc-suc a b ∙ compare-lt a b (le-of-suc-le-suc h)
-
-compare-gt : (a b : ℕ) → b < a → compare a b ≡ Ordering·gt
-compare-gt zero b h = absurd (omega arith)
-compare-gt (suc a) zero h = compare·suc-zero a
-compare-gt (suc a) (suc b) h = compare·suc-suc a b ∙ compare-gt a b (le-of-suc-le-suc h)
-
-compare-self : (a : ℕ) → compare a a ≡ Ordering·eq
-compare-self zero = compare·zero-zero
-compare-self (suc a) = compare·suc-suc a a ∙ compare-self a
-
-compare-eq : (a b : ℕ) → a ≡ b → compare a b ≡ Ordering·eq
-compare-eq a b e = rw e (compare-self b)
 
 pub isLess-float : (a b : Float) → lt a b ≡ isLess (compareFloat a b)
 unfolding compareFloat
@@ -42,28 +24,28 @@ isLess-float a b = go (lt a b) (lt b a)
 module _ (l r : CandidateScore) where
   pub more-sheets : r .«used_stock_count» < l .«used_stock_count» → Ordering·lt ≡ compareScore (scoreOf l) (scoreOf r)
   unfolding compareScore scoreOf
-  more-sheets h = rw (compare-lt _ _ h)
+  more-sheets h = rw (compare-is Ordering·lt _ _ h)
 
   pub fewer-sheets : l .«used_stock_count» < r .«used_stock_count» → Ordering·gt ≡ compareScore (scoreOf l) (scoreOf r)
   unfolding compareScore scoreOf
-  fewer-sheets h = rw (compare-gt _ _ h)
+  fewer-sheets h = rw (compare-is Ordering·gt _ _ h)
 
   module _ (same : l .«used_stock_count» ≡ r .«used_stock_count») where
     pub more-waste : r .«waste_area» < l .«waste_area» → Ordering·lt ≡ compareScore (scoreOf l) (scoreOf r)
     unfolding compareScore scoreOf
-    more-waste h = rw (compare-eq (r .«used_stock_count») (l .«used_stock_count») (omega arith), compare-lt _ _ h)
+    more-waste h = rw (compare-is Ordering·eq (r .«used_stock_count») (l .«used_stock_count») (omega arith), compare-is Ordering·lt _ _ h)
 
     pub less-waste : l .«waste_area» < r .«waste_area» → Ordering·gt ≡ compareScore (scoreOf l) (scoreOf r)
     unfolding compareScore scoreOf
-    less-waste h = rw (compare-eq (r .«used_stock_count») (l .«used_stock_count») (omega arith), compare-gt _ _ h)
+    less-waste h = rw (compare-is Ordering·eq (r .«used_stock_count») (l .«used_stock_count») (omega arith), compare-is Ordering·gt _ _ h)
 
     module _ (waste : l .«waste_area» ≡ r .«waste_area») where
       pub no-sheets : l .«used_stock_count» ≡ 0 → Ordering·eq ≡ compareScore (scoreOf l) (scoreOf r)
       unfolding compareScore scoreOf compareFitness
       no-sheets z =
-          rw (compare-eq (r .«used_stock_count») (l .«used_stock_count») (omega arith), compare-eq (r .«waste_area») (l .«waste_area») (omega arith), eq-eqb (l .«used_stock_count») 0 z, eq-eqb (r .«used_stock_count») 0 (omega arith))
+          rw (compare-is Ordering·eq (r .«used_stock_count») (l .«used_stock_count») (omega arith), compare-is Ordering·eq (r .«waste_area») (l .«waste_area») (omega arith), eq-eqb (l .«used_stock_count») 0 z, eq-eqb (r .«used_stock_count») 0 (omega arith))
 
       pub by-fitness : (l .«used_stock_count» ≡ 0 → ⊥) → compareFloat (l .fitness) (r .fitness) ≡ compareScore (scoreOf l) (scoreOf r)
       unfolding compareScore scoreOf compareFitness
       by-fitness z =
-          rw (compare-eq (r .«used_stock_count») (l .«used_stock_count») (omega arith), compare-eq (r .«waste_area») (l .«waste_area») (omega arith), ne-eqb (l .«used_stock_count») 0 z, ne-eqb (r .«used_stock_count») 0 (λ e. z (omega arith)))
+          rw (compare-is Ordering·eq (r .«used_stock_count») (l .«used_stock_count») (omega arith), compare-is Ordering·eq (r .«waste_area») (l .«waste_area») (omega arith), ne-eqb (l .«used_stock_count») 0 z, ne-eqb (r .«used_stock_count») 0 (λ e. z (omega arith)))

@@ -1,4 +1,3 @@
-pub mod Product
 pub mod Tests
 pub mod Order
 pub mod Orientations

@@ -1,5 +1,5 @@
 -- That no pair merges, as a fact of every pair; it does not depend on the order of the rectangles.
-use Prim.Native.Nat.{ℕ, zero, suc, _-_, _≤_, _<_}
+use Prim.Native.Nat.{ℕ, suc, _-_, _≤_, _<_}
 use native.Mathlib.Omega.{arith}
 use mathlib.Core.Path.{_≡_, refl, sym, ap, _∙_}
 use mathlib.Core.Bool.{Bool, true, false}
@@ -8,6 +8,7 @@ use mathlib.Core.Option.{Option, none, some, Option·some-injective, Option·non
 use lib.ListN.{length, take}
 use Rattle.lists.specs.Base.{if_then_else_, _<|>_, _>>=_, swapRemove}
 use Rattle.lists.proofs.Perm.{All, Pairs, pairs-perm, swapRemove-out}
+use Rattle.lists.proofs.Every.{all-take}
 use Rattle.model.specs.declared.Rect.{Rect}
 use Rattle.model.specs.Types.{noRect}
 use Rattle.model.specs.Merge.{Pair, below, beside, stacked, joined, mergeAdjacentRects, findRight, findPair, firstPair}
@@ -91,11 +92,6 @@ module _ (kerf : ℕ) where
           → (findRight kerf i left (suc j) rest ≡ some p → p .left ≡ i) → p .left ≡ i
       go none h later = later h
       go (some m) h later = sym (ap (λ (x : Pair). x .left) (Option·some-injective _ _ h))
-
-  all-take : (P : Rect → Type 0) (n : ℕ) (l : List Rect) → All P l → All P (take n l)
-  all-take P zero l a = tt
-  all-take P (suc n) [] a = tt
-  all-take P (suc n) (r ∷ rest) a = (a .0, all-take P n rest (a .1))
 
   pairs-none : (n : ℕ) (l : List Rect) → n ≡ 0 → Pairs (Apart kerf) (take n l)
   pairs-none n l e = rw e tt

@@ -1,4 +1,3 @@
-pub mod Arrays
 pub mod Splits
 pub mod Remainders
 pub mod Adjacent

@@ -10,10 +10,11 @@ use lib.ListN.{length, take, drop, getD, length-take}
 use lib.Seq.{take-nil, drop-drop, getD-take, length-take-le}
 use Rattle.lists.specs.Base.{_<|>_, _>>=_}
 use Rattle.lists.proofs.Perm.{All, Pairs}
+use Rattle.lists.proofs.Every.{all-get}
+use Rattle.lists.proofs.Arrays.{drop-past, drop-within}
 use Rattle.model.specs.declared.Rect.{Rect}
 use Rattle.model.specs.Types.{noRect}
 use Rattle.model.specs.Merge.{mergeAdjacentRects, findRight, findPair, firstPair}
-use Rattle.free_rects.proofs.Arrays.{all-get, drop-past, drop-next}
 use Rattle.free_rects.proofs.Apart.{Apart, first-apart}
 
 -- ---- rectangles that are known not to merge with the left one
@@ -53,7 +54,7 @@ module _ (l : List Rect) (n : ℕ) (under : n ≤ length l) where
     pub row-start : (i : ℕ) → i < n
         → findPair kerf i (drop i (take n l)) ≡ (findRight kerf i (getD l i noRect) (i + 1) (drop (i + 1) (take n l)) <|> findPair kerf (i + 1) (drop (i + 1) (take n l)))
     unfolding findPair
-    row-start i h = rw (drop-next n l i noRect h under, add-one i)
+    row-start i h = rw (drop-within n l i noRect h under, add-one i)
 
     pub pair-end : (i : ℕ) → n ≤ i → findPair kerf i (drop i (take n l)) ≡ none
     unfolding findPair
@@ -87,7 +88,7 @@ module _ (l : List Rect) (n : ℕ) (under : n ≤ length l) where
           → findRight kerf i left j (drop j (take n l))
           ≡ ((mergeAdjacentRects kerf left (getD l j noRect) >>= λ m. some (record { left = i; right = j; merged = m })) <|> findRight kerf i left (j + 1) (drop (j + 1) (take n l)))
       unfolding findRight
-      row-step j h = rw (drop-next n l j noRect h under, add-one j)
+      row-step j h = rw (drop-within n l j noRect h under, add-one j)
 
       -- the inner loop passes a rectangle, finds one, and ends
       pub row-skip : (j : ℕ) → j < n → mergeAdjacentRects kerf left (getD l j noRect) ≡ none

@@ -1,12 +1,15 @@
 -- The shuffle of numbers that stand for keys is the definition's shuffle of the keys; and every shuffle is a permutation.
 use Prim.Native.Nat.{ℕ, zero, suc, pred, _+_, _-_, _≤_, _<_}
-use native.Mathlib.Nat.{mod-lt, zero-lt-suc, le-of-suc-le-suc, not-suc-le-zero}
+use native.Mathlib.Nat.{mod-lt, zero-lt-suc}
 use native.Mathlib.Omega.{arith}
 use mathlib.Core.Path.{_≡_, refl, sym, ap, ap₂, _∙_}
 use mathlib.Core.List.{List, [], _∷_, map}
-use lib.ListN.{length, getD, set, length-set}
+use lib.ListN.{length}
 use Rattle.lists.specs.Base.{swap}
 use Rattle.lists.proofs.Perm.{Perm, perm-refl, also, swap-perm}
+use Rattle.lists.proofs.Maps.{map-swap}
+use Rattle.lists.proofs.Arrays.{length-swap}
+use Rattle.lists.proofs.Sums.{length-map}
 use Rattle.model.specs.declared.InstanceKey.{InstanceKey}
 use Rattle.model.specs.Types.{noKey}
 use Rattle.model.specs.TinyPrng.{nextState, valueOf, indexOf}
@@ -17,44 +20,16 @@ pub index-below : (state upper : ℕ) → 0 < upper → indexOf state upper < up
 unfolding indexOf
 index-below state upper h = mod-lt (valueOf state) h
 
--- ---- a swap, through a map
-
-module _ {A B : Type 0} (f : A → B) where
-  length-map : (xs : List A) → length (map f xs) ≡ length xs
-  length-map [] = refl
-  length-map (x ∷ xs) = ap suc (length-map xs)
-
-  map-set : (xs : List A) (i : ℕ) (v : A) → map f (set xs i v) ≡ set (map f xs) i (f v)
-  map-set [] i v = refl
-  map-set (x ∷ xs) zero v = refl
-  map-set (x ∷ xs) (suc i) v = ap {B = List B} (λ r. f x ∷ r) (map-set xs i v)
-
-  getD-map : (d : A) (e : B) (xs : List A) (i : ℕ) → i < length xs → f (getD xs i d) ≡ getD (map f xs) i e
-  getD-map d e [] i h = absurd (not-suc-le-zero h)
-  getD-map d e (x ∷ xs) zero h = refl
-  getD-map d e (x ∷ xs) (suc i) h = getD-map d e xs i (le-of-suc-le-suc h)
-
-  pub map-swap : (d : A) (e : B) (i j : ℕ) (xs : List A) → i < length xs → j < length xs → map f (swap d i j xs) ≡ swap e i j (map f xs)
-  unfolding swap
-  map-swap d e i j xs h k =
-      map-set (set xs i (getD xs j d)) j (getD xs i d)
-      ∙ ap (λ (ys : List B). set ys j (f (getD xs i d))) (map-set xs i (getD xs j d))
-      ∙ ap₂ (λ (u v : B). set (set (map f xs) i u) j v) (getD-map d e xs j k) (getD-map d e xs i h)
-
 -- ---- a shuffle, through a map and up to order
 
 module _ {A : Type 0} (d : A) where
-  length-swap : (i j : ℕ) (xs : List A) → length (swap d i j xs) ≡ length xs
-  unfolding swap
-  length-swap i j xs = simp length-set
-
   -- the indexes of a turn, and that the next turn's index is within the list as well
   within : (i state : ℕ) (xs : List A) → suc i < length xs
       → (indexOf (nextState state) (suc (suc i)) < length xs) × (i < length (swap d (suc i) (indexOf (nextState state) (suc (suc i))) xs))
   within i state xs h =
       let j = indexOf (nextState state) (suc (suc i)) in
       let below : j < suc (suc i) = index-below (nextState state) (suc (suc i)) (zero-lt-suc (suc i)) in
-      (omega arith, omega (arith, length-swap (suc i) j xs))
+      (omega arith, omega (arith, length-swap d (suc i) j xs))
 
   from-perm : (i state : ℕ) (xs : List A) → i < length xs → Perm (shuffledFrom d i state xs) xs
   unfolding shuffledFrom

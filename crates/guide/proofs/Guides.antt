@@ -8,6 +8,7 @@ use native.Mathlib.Omega.{arith}
 use lib.ListN.{length, take, drop, length-append, length-take}
 use lib.Seq.{take-at}
 use Rattle.lists.specs.Base.{_>>=_}
+use Rattle.trust.proofs.RoundTrip.{node-size, nodes-size}
 use Rattle.model.specs.declared.Rect.{Rect}
 use Rattle.model.specs.declared.Direction.{Direction}
 use Rattle.model.specs.declared.CutInstance.{CutInstance}
@@ -18,7 +19,7 @@ use Rattle.guide.specs.declared.Node.{Node}
 use Rattle.guide.specs.declared.Subtree.{Subtree}
 use Rattle.guide.specs.Words.{wordsOf, subtreeWords, guideWords, treeWords, Holds, Became, Becomes, Replaces, Guided, spliced, splitGuide, nextGuide}
 use Rattle.guide.specs.Leaves.{size, Reads, Formed, Ends}
-use Rattle.guide.proofs.Trees.{guideWords-some, guideWords-none, treeWords-leaf, size-cut, size-leaf, eight, length-words}
+use Rattle.guide.proofs.Trees.{guideWords-some, guideWords-none, treeWords-leaf, size-cut, size-leaf}
 use Rattle.guide.proofs.Splices.{reads-part, Spliced, Outcome, outcome, spliced-is}
 use Rattle.guide.proofs.Subtrees.{subtree-length}
 
@@ -38,7 +39,7 @@ size-pos (leaf r k) = omega (arith, size-leaf r k)
 
 module _ (w : List ℕ) (n : ℕ) where
   pub holds-fits : (g : Option SliceNode) → Holds w n g → 8 * n ≤ length w
-  holds-fits g h = omega (arith, length-take (8 * n) w, ap length (h .reads), length-words (nodesOf g), h .counts)
+  holds-fits g h = omega (arith, length-take (8 * n) w, ap length (h .reads), nodes-size (nodesOf g), h .counts)
 
   holds-reads : (t : SliceNode) → Holds w n (some t) → Reads w n 0 t
   holds-reads t h =
@@ -69,7 +70,7 @@ pub became-holds : (before after : List ℕ) (n : ℕ) (g : Option SliceNode) �
 became-holds before after n g b =
     record {
       counts = b .counts;
-      reads = ap (take (8 * n)) (b .words) ∙ take-at (guideWords g) (drop (8 * n) before) (8 * n) (omega (arith, length-words (nodesOf g), b .counts));
+      reads = ap (take (8 * n)) (b .words) ∙ take-at (guideWords g) (drop (8 * n) before) (8 * n) (omega (arith, nodes-size (nodesOf g), b .counts));
     }
 
 became-none : (w : List ℕ) → Became w w 0 none
@@ -94,7 +95,7 @@ module _ (w : List ℕ) (n : ℕ) (target : Rect) (k : 0 < n) (found : Found) (e
   -- the tree's words, by the leaf's place among them
   leaf-lengths : (i : ℕ) (node t : SliceNode) → Holds w n (some t) → (s : Spliced target 0 i node t) → 8 * n ≡ length (s .front) + (8 + length (s .back))
   leaf-lengths i node t h s =
-      omega (arith, h .counts, size-some t, length-words (preorder t), ap length (s .was), length-append (s .front) (nodeWords (leaf target free) ++ s .back), length-append (nodeWords (leaf target free)) (s .back), eight (leaf target free))
+      omega (arith, h .counts, size-some t, nodes-size (preorder t), ap length (s .was), length-append (s .front) (nodeWords (leaf target free) ++ s .back), length-append (nodeWords (leaf target free)) (s .back), node-size (leaf target free))
 
   pub found-below : (i : ℕ) → found ≡ Found.At i → Guided w n → i < n
   found-below i e g = go (g .guide) (g .holds)
@@ -120,13 +121,13 @@ module _ (w : List ℕ) (n : ℕ) (target : Rect) (k : 0 < n) (found : Found) (e
       made node t f h p =
           let all : treeWords (p .after) ≡ spliced w n i (subtreeWords s) =
           p .is ∙ ap (λ (l : List ℕ). p .front ++ (l ++ p .back)) f
-          ∙ sym (spliced-is w (subtreeWords s) n i (p .front) (nodeWords (leaf target free)) (p .back) (holds-fits w n (some t) h) (h .reads ∙ guideWords-some t ∙ p .was) (omega (arith, p .place)) (eight (leaf target free)))
+          ∙ sym (spliced-is w (subtreeWords s) n i (p .front) (nodeWords (leaf target free)) (p .back) (holds-fits w n (some t) h) (h .reads ∙ guideWords-some t ∙ p .was) (omega (arith, p .place)) (node-size (leaf target free)))
           in
           let long : length (treeWords (p .after)) ≡ length (p .front) + (length (treeWords node) + length (p .back)) =
           ap length (p .is) ∙ length-append (p .front) (treeWords node ++ p .back) ∙ ap (λ (m : ℕ). length (p .front) + m) (length-append (treeWords node) (p .back))
           in
           record {
-            counts = omega (arith, size-some (p .after), length-words (preorder (p .after)), leaf-lengths i node t h p, ap length f);
+            counts = omega (arith, size-some (p .after), nodes-size (preorder (p .after)), leaf-lengths i node t h p, ap length f);
             words = words ∙ ap (λ (l : List ℕ). l ++ drop (8 * r) w) (sym (guideWords-some (p .after) ∙ all));
           }
 

@@ -1,4 +1,3 @@
-pub mod Lists
 pub mod Tests
 pub mod Trees
 pub mod Cuts

@@ -9,6 +9,8 @@ use lib.Dec.{eqb}
 use lib.ListN.{length, getD, take, drop, drop-of-length-le}
 use lib.Seq.{drop-cons, drop-drop}
 use Rattle.lists.specs.Base.{if_then_else_, sum, concatMap}
+use Rattle.lists.proofs.Parts.{part-left, part-right}
+use Rattle.trust.proofs.RoundTrip.{node-size}
 use Rattle.model.specs.declared.Rect.{Rect}
 use Rattle.model.specs.declared.Direction.{Direction}
 use Rattle.model.specs.Types.{noRect, directionCode}
@@ -16,8 +18,6 @@ use Rattle.model.specs.Guide.{SliceNode, cut, leaf, free, cutPiece}
 use Rattle.model.specs.Plan.{nodeWords, nodesOf, alongCut, sawLength}
 use Rattle.guide.specs.Words.{Holds, sawAt}
 use Rattle.guide.specs.Leaves.{nodeAt}
-use Rattle.guide.proofs.Lists.{part-left, part-right}
-use Rattle.guide.proofs.Trees.{eight}
 use Rattle.guide.proofs.Searches.{word, kind}
 
 along : (o : Direction) (r : Rect) → (if eqb (directionCode o) 0 then r .width else r .length) ≡ alongCut o r
@@ -45,11 +45,11 @@ split-off n ns w e =
 nodes-at : (ns : List SliceNode) (w : List ℕ) (at : ℕ) → take (8 * length ns) w ≡ concatMap nodeWords ns → at < length ns → nodeAt w at ≡ nodeWords (getD ns at noNode)
 unfolding concatMap
 nodes-at [] w at e h = absurd (omega arith)
-nodes-at (n ∷ ns) w zero e h = part-left w 0 8 (8 * length ns) (nodeWords n) (concatMap nodeWords ns) (split-off n ns w e) (eight n)
+nodes-at (n ∷ ns) w zero e h = part-left w 0 8 (8 * length ns) (nodeWords n) (concatMap nodeWords ns) (split-off n ns w e) (node-size n)
 nodes-at (n ∷ ns) w (suc at) e h =
     let far : 8 * suc at ≡ 8 + 8 * at = omega arith in
     ap (λ (m : ℕ). take 8 (drop m w)) far ∙ ap (take 8) (sym (drop-drop (8 * at) 8 w))
-    ∙ nodes-at ns (drop 8 w) at (part-right w 0 8 (8 * length ns) (nodeWords n) (concatMap nodeWords ns) (split-off n ns w e) (eight n)) (omega arith)
+    ∙ nodes-at ns (drop 8 w) at (part-right w 0 8 (8 * length ns) (nodeWords n) (concatMap nodeWords ns) (split-off n ns w e) (node-size n)) (omega arith)
 
 module _ (w : List ℕ) (n at : ℕ) (g : Option SliceNode) (h : Holds w n g) where
   pub saw-step : at < n → sum (map sawLength (drop at (nodesOf g))) ≡ sawAt w at + sum (map sawLength (drop (at + 1) (nodesOf g)))

@@ -9,17 +9,18 @@ use lib.Dec.{T}
 use lib.ListN.{length, take, drop, length-append, length-drop}
 use lib.Seq.{take-at, drop-at, take-take, take-append-le, length-take-le}
 use Rattle.lists.specs.Base.{if_then_else_}
+use Rattle.lists.specs.Parts.{part, patch}
+use Rattle.lists.proofs.Parts.{drop-take-add, part-left, part-right}
 use Rattle.model.specs.declared.Rect.{Rect}
 use Rattle.model.specs.Types.{sameRect}
 use Rattle.model.specs.Guide.{GuideCut, SliceNode, cut, leaf, free, cutPiece, replaceFreeLeaf}
 use Rattle.model.specs.Plan.{preorder, nodeWords}
 use Rattle.trust.proofs.Guide.{sameRect-eq}
+use Rattle.trust.proofs.RoundTrip.{node-size, nodes-size}
 use Rattle.guide.specs.declared.Found.{Found}
-use Rattle.guide.specs.Lists.{part, patch}
 use Rattle.guide.specs.Words.{treeWords, spliced}
 use Rattle.guide.specs.Leaves.{thenPast, leafFrom, size, Reads}
-use Rattle.guide.proofs.Lists.{drop-take-add, part-left, part-right}
-use Rattle.guide.proofs.Trees.{treeWords-cut, treeWords-leaf, size-cut, size-leaf, eight, length-words}
+use Rattle.guide.proofs.Trees.{treeWords-cut, treeWords-leaf, size-cut, size-leaf}
 use Rattle.guide.proofs.Searches.{PastIs, past-size}
 
 -- ---- a tree's words are read from its root's number on
@@ -30,16 +31,16 @@ reads-part w n at (cut c a b) h e =
     let both : part w (8 * at) (8 + (8 * size a + 8 * size b)) ≡ nodeWords (cut c a b) ++ (treeWords a ++ treeWords b) =
     ap (part w (8 * at)) (sym whole) ∙ e ∙ treeWords-cut c a b
     in
-    let here = eight (cut c a b) in
+    let here = node-size (cut c a b) in
     let children = part-right w (8 * at) 8 (8 * size a + 8 * size b) (nodeWords (cut c a b)) (treeWords a ++ treeWords b) both here in
     let first-at : 8 * (at + 1) ≡ 8 * at + 8 = omega arith in
     let second-at : 8 * (at + 1 + size a) ≡ 8 * at + 8 + 8 * size a = omega arith in (
       omega (arith, size-cut c a b),
       part-left w (8 * at) 8 (8 * size a + 8 * size b) (nodeWords (cut c a b)) (treeWords a ++ treeWords b) both here,
       reads-part w n (at + 1) a (omega (arith, size-cut c a b))
-          (ap (λ (m : ℕ). part w m (8 * size a)) first-at ∙ part-left w (8 * at + 8) (8 * size a) (8 * size b) (treeWords a) (treeWords b) children (length-words (preorder a))),
+          (ap (λ (m : ℕ). part w m (8 * size a)) first-at ∙ part-left w (8 * at + 8) (8 * size a) (8 * size b) (treeWords a) (treeWords b) children (nodes-size (preorder a))),
       reads-part w n (at + 1 + size a) b (omega (arith, size-cut c a b))
-          (ap (λ (m : ℕ). part w m (8 * size b)) second-at ∙ part-right w (8 * at + 8) (8 * size a) (8 * size b) (treeWords a) (treeWords b) children (length-words (preorder a))),
+          (ap (λ (m : ℕ). part w m (8 * size b)) second-at ∙ part-right w (8 * at + 8) (8 * size a) (8 * size b) (treeWords a) (treeWords b) children (nodes-size (preorder a))),
     )
 reads-part w n at (leaf r k) h e =
     let one : 8 * size (leaf r k) ≡ 8 = omega (arith, size-leaf r k) in
@@ -74,7 +75,7 @@ module _ (target : Rect) (sub : SliceNode) where
           made = rw (s .made);
           front = nodeWords (cut c a b) ++ s .front;
           back = s .back ++ treeWords b;
-          place = omega (arith, s .place, length-append (nodeWords (cut c a b)) (s .front), eight (cut c a b));
+          place = omega (arith, s .place, length-append (nodeWords (cut c a b)) (s .front), node-size (cut c a b));
           was = treeWords-cut c a b ∙ ap (λ (l : List ℕ). nodeWords (cut c a b) ++ (l ++ treeWords b)) (s .was) ∙ simp append-assoc;
           is = treeWords-cut c (s .after) b ∙ ap₂ (λ (l m : List ℕ). l ++ (m ++ treeWords b)) (nodeWords-cut (s .after) b) (s .is) ∙ simp append-assoc;
         }
@@ -87,7 +88,7 @@ module _ (target : Rect) (sub : SliceNode) where
           made = rw (n, s .made);
           front = nodeWords (cut c a b) ++ (treeWords a ++ s .front);
           back = s .back;
-          place = omega (arith, s .place, length-append (nodeWords (cut c a b)) (treeWords a ++ s .front), length-append (treeWords a) (s .front), eight (cut c a b), length-words (preorder a));
+          place = omega (arith, s .place, length-append (nodeWords (cut c a b)) (treeWords a ++ s .front), length-append (treeWords a) (s .front), node-size (cut c a b), nodes-size (preorder a));
           was = treeWords-cut c a b ∙ ap (λ (l : List ℕ). nodeWords (cut c a b) ++ (treeWords a ++ l)) (s .was) ∙ simp append-assoc;
           is = treeWords-cut c a (s .after) ∙ ap₂ (λ (l m : List ℕ). l ++ (treeWords a ++ m)) (nodeWords-cut a (s .after)) (s .is) ∙ simp append-assoc;
         }

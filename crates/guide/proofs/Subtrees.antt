@@ -4,11 +4,11 @@ use mathlib.Core.List.{List, _++_}
 use Prim.Native.Nat.{ℕ, _+_, _*_, _≤_}
 use native.Mathlib.Omega.{arith}
 use lib.ListN.{length, length-append}
+use Rattle.lists.specs.Parts.{patch}
+use Rattle.lists.proofs.Parts.{then-patch}
 use Rattle.guide.specs.declared.CutOff.{CutOff}
 use Rattle.guide.specs.declared.Subtree.{Subtree}
-use Rattle.guide.specs.Lists.{patch}
 use Rattle.guide.specs.Words.{wordsOf, beforeWords, afterWords, subtreeWords}
-use Rattle.guide.proofs.Lists.{then-patch}
 
 two-nodes : (c : CutOff) → length (beforeWords c) + length (afterWords c) ≤ 16
 two-nodes CutOff.Nothing = omega arith

@@ -1,23 +1,23 @@
 -- Words start with at most one guide: a node is told by its eight words, and a tree by its nodes in preorder.
-use mathlib.Core.Path.{_≡_, refl, sym, ap, ap₂, _∙_}
-use mathlib.Core.List.{List, [], _∷_, _++_, append-assoc, append-nil}
+use mathlib.Core.Path.{_≡_, refl, sym, ap, _∙_}
+use mathlib.Core.List.{List, [], _++_, append-assoc, append-nil}
 use mathlib.Core.Option.{Option, none, some}
-use Prim.Native.Nat.{ℕ, zero, suc, _+_, _*_, _/_, _%_, _^_}
+use Prim.Native.Nat.{ℕ, zero, suc, _+_, _*_, _^_}
 use native.Mathlib.Nat.{div-add-mod'}
 use native.Mathlib.Omega.{arith}
 use lib.Dec.{eqb}
 use lib.ListN.{getD, take, drop}
 use lib.Seq.{take-at, drop-at}
 use Rattle.lists.specs.Base.{if_then_else_}
+use Rattle.trust.proofs.RoundTrip.{node-size}
 use Rattle.model.specs.declared.Rect.{Rect}
 use Rattle.model.specs.declared.Direction.{Direction}
-use Rattle.model.specs.declared.InstanceKey.{InstanceKey}
 use Rattle.model.specs.Types.{directionCode}
 use Rattle.model.specs.Guide.{GuideCut, LeafKind, SliceNode, cut, leaf, free, cutPiece}
 use Rattle.model.specs.Plan.{nodeWords}
 use Rattle.guide.specs.Words.{treeWords, Holds}
 use Rattle.guide.specs.Leaves.{rectAt}
-use Rattle.guide.proofs.Trees.{treeWords-cut, treeWords-leaf, guideWords-some, eight}
+use Rattle.guide.proofs.Trees.{treeWords-cut, treeWords-leaf, guideWords-some}
 use Rattle.guide.proofs.Guides.{holds-absent, holds-present}
 
 -- ---- what eight words say
@@ -58,10 +58,10 @@ cut-kind c a b = refl
 
 module _ (s t : SliceNode) (x y : List ℕ) (e : nodeWords s ++ x ≡ nodeWords t ++ y) where
   same-node : nodeWords s ≡ nodeWords t
-  same-node = sym (take-at (nodeWords s) x 8 (eight s)) ∙ ap (take 8) e ∙ take-at (nodeWords t) y 8 (eight t)
+  same-node = sym (take-at (nodeWords s) x 8 (node-size s)) ∙ ap (take 8) e ∙ take-at (nodeWords t) y 8 (node-size t)
 
   same-rest : x ≡ y
-  same-rest = sym (drop-at (nodeWords s) x 8 (eight s)) ∙ ap (drop 8) e ∙ drop-at (nodeWords t) y 8 (eight t)
+  same-rest = sym (drop-at (nodeWords s) x 8 (node-size s)) ∙ ap (drop 8) e ∙ drop-at (nodeWords t) y 8 (node-size t)
 
 first-words : (l m : List ℕ) → l ≡ m → getD l 0 0 ≡ getD m 0 0
 first-words l m e = ap (λ (n : List ℕ). getD n 0 0) e

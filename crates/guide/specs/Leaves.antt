@@ -6,12 +6,12 @@ use mathlib.Core.List.{List}
 use lib.Dec.{eqb}
 use lib.ListN.{length, getD}
 use Rattle.lists.specs.Base.{if_then_else_}
+use Rattle.lists.specs.Parts.{part}
 use Rattle.model.specs.declared.Rect.{Rect}
 use Rattle.model.specs.Types.{rect, sameRect}
 use Rattle.model.specs.Guide.{SliceNode, cut, leaf, free, cutPiece}
 use Rattle.model.specs.Plan.{nodeWords, preorder}
 use Rattle.guide.specs.declared.Found.{Found}
-use Rattle.guide.specs.Lists.{part}
 
 abbrev pub thenPast : Found → (ℕ → Found) → Found
 thenPast (Found.At i) next = Found.At i

@@ -7,12 +7,12 @@ use mathlib.Core.Option.{Option, none}
 use lib.Dec.{eqb}
 use lib.ListN.{length, getD, take, drop}
 use Rattle.lists.specs.Base.{if_then_else_, _>>=_, sum, concatMap}
+use Rattle.lists.specs.Parts.{part}
 use Rattle.model.specs.declared.Rect.{Rect}
 use Rattle.model.specs.declared.Direction.{Direction}
 use Rattle.model.specs.declared.CutInstance.{CutInstance}
 use Rattle.model.specs.Guide.{SliceNode, span, cutOff, insertSubtree, replaceFreeLeaf}
 use Rattle.model.specs.Plan.{rectWords, nodeWords, preorder, nodesOf, sawLength}
-use Rattle.guide.specs.Lists.{part}
 use Rattle.guide.specs.declared.Node.{Node}
 use Rattle.guide.specs.declared.Remainder.{Remainder}
 use Rattle.guide.specs.declared.CutOff.{CutOff}

@@ -5,6 +5,7 @@ ghost use mathlib.Core.List.{[], _∷_, _++_};
 ghost use mathlib.Core.Option.{some};
 ghost use Prim.Native.Nat.{_+_, _-_, _*_, _≤_, _<_};
 ghost use lib.ListN.{length, take, drop};
+ghost use Rattle.lists.specs.Parts.{part, patch};
 ghost use Rattle.model.specs.declared.Direction.{Direction};
 ghost use Rattle.model.specs.Types.{sameRect, directionCode, cutKey};
 ghost use Rattle.model.specs.Split.{bottomRemainder, rightRemainder};
@@ -12,7 +13,6 @@ ghost use Rattle.model.specs.Guide.{SliceNode, leaf, free, cutPiece, insertSubt
 ghost use Rattle.model.specs.Guide.{cut as cutOf};
 ghost use Rattle.model.specs.Plan.{nodeWords};
 ghost use Rattle.trust.proofs.Guide.{guideCutOf};
-ghost use Rattle.guide.specs.Lists.{part, patch};
 ghost use Rattle.guide.specs.Words.{wordsOf, remainderOf, beforeWords, afterWords, subtreeWords, spliced, guideWords, Guided, Became, Becomes, Replaces, InCorner, Cuttable, CutsOff, nextGuide, sawAt, Sawn, Sawable};
 ghost use Rattle.guide.specs.Leaves.{rectAt, leafAt, Formed, Ends};
 use model::CutInstance;
@@ -470,10 +470,5 @@ pub fn put_nodes(plan: &mut [u32], at: usize, words: &[u32], count: usize)
     requires { ⌜ (at + 8 * count ≤ length (now plan)) × (8 * count ≤ length (now words)) ⌝ }
     ensures { λ _. ⌜ now (plan .exit) ≡ patch (now (plan .entry)) at (take (8 * count) (now (words .entry))) ⌝ }
 {
-    let n = 8 * count;
-    let mut i = 0;
-    while i < n {
-        plan[at + i] = words[i];
-        i += 1;
-    }
+    copying::put_words(plan, at, words, 8 * count);
 }

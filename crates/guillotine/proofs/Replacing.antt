@@ -1,15 +1,15 @@
 -- The rectangle at an index gives way to two remainders, call by call, over values.
-use Prim.Native.Nat.{ℕ, _+_, _-_, _≤_, _<_}
+use Prim.Native.Nat.{ℕ, _+_, _≤_, _<_}
 use native.Mathlib.Omega.{arith}
 use mathlib.Core.Path.{_≡_, ap, _∙_}
 use mathlib.Core.List.{List, _++_, append-assoc}
 use lib.ListN.{length, getD, length-append}
 use Rattle.lists.specs.Base.{swapRemove}
+use Rattle.lists.proofs.Arrays.{swap-length}
 use Rattle.model.specs.declared.Rect.{Rect}
 use Rattle.model.specs.Types.{noRect}
 use Rattle.free_rects.specs.declared.Remainder.{Remainder}
 use Rattle.free_rects.specs.FreeList.{remainderOf}
-use Rattle.free_rects.proofs.Arrays.{swap-length}
 use Rattle.free_rects.proofs.Splits.{remainder-one}
 use Rattle.guillotine.specs.SheetWords.{rectsIn, withRects, Block, mostRects, blockWords}
 use Rattle.guillotine.proofs.Words.{length-rects, count-with, with-more, block-with}

@@ -8,6 +8,7 @@ use mathlib.Core.Option.{none, some, Option·some-injective}
 use lib.ListN.{length}
 use Rattle.lists.specs.Base.{swapRemove}
 use Rattle.lists.proofs.Perm.{all-append}
+use Rattle.lists.proofs.Every.{all-get}
 use Rattle.model.specs.declared.PatternDirection.{PatternDirection}
 use Rattle.model.specs.declared.BaselineGuillotineHeuristic.{BaselineGuillotineHeuristic}
 use Rattle.model.specs.declared.Rect.{Rect}
@@ -23,7 +24,6 @@ use Rattle.trust.proofs.Placing.{Good, bestPlace-good}
 use Rattle.trust.proofs.Merging.{mergeRounds-done}
 use Rattle.fits.specs.declared.Score.{Score}
 use Rattle.free_rects.specs.Bounds.{Small, Inside}
-use Rattle.free_rects.proofs.Arrays.{all-get}
 use Rattle.free_rects.proofs.Remainders.{split-small, swap-small}
 use Rattle.free_rects.proofs.Rounds.{rounds-small}
 use Rattle.guillotine.specs.declared.BestFit.the-variants as best

@@ -1,5 +1,5 @@
 -- The insertion at a place, call by call, over values: what each call needs, and what the last one leaves.
-use Prim.Native.Nat.{ℕ, _+_, _-_, _≤_, _<_}
+use Prim.Native.Nat.{ℕ, _+_, _≤_, _<_}
 use native.Mathlib.Omega.{arith}
 use mathlib.Core.Path.{_≡_, refl, sym, ap, _∙_}
 use mathlib.Core.List.{List, _++_}
@@ -9,6 +9,8 @@ use lib.ListN.{length, getD, take, length-append}
 use lib.Seq.{take-at}
 use Rattle.lists.specs.Base.{isSome, swapRemove}
 use Rattle.lists.proofs.Perm.{All, all-left, all-right, all-append}
+use Rattle.lists.proofs.Every.{all-get}
+use Rattle.lists.proofs.Arrays.{swap-length}
 use Rattle.model.specs.declared.Rect.{Rect}
 use Rattle.model.specs.declared.Direction.{Direction}
 use Rattle.model.specs.Types.{noRect}
@@ -21,7 +23,6 @@ use Rattle.free_rects.specs.declared.Remainder.{Remainder}
 use Rattle.free_rects.specs.FreeList.{rectsOf, Holds, remainderOf}
 use Rattle.free_rects.specs.Bounds.{Small, Inside}
 use Rattle.free_rects.specs.Merging.{Scannable, MergesTo}
-use Rattle.free_rects.proofs.Arrays.{all-get, swap-length}
 use Rattle.free_rects.proofs.Remainders.{split-small, swap-small}
 use Rattle.free_rects.proofs.Apart.{swap-apart}
 use Rattle.free_rects.proofs.Rounds.{rounds-stop}

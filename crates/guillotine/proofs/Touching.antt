@@ -1,21 +1,24 @@
 -- Whether the remainders of a split merge with what is there: tested on the words, and equal to what `merge_free_rects` would say.
-use Prim.Native.Nat.{ℕ, zero, suc, _+_, _≤_, _<_}
+use Prim.Native.Nat.{ℕ, _+_, _≤_, _<_}
 use native.Mathlib.Numerals.{add-one}
 use native.Mathlib.Omega.{arith}
-use mathlib.Core.Path.{_≡_, refl, sym, ap, _∙_}
+use mathlib.Core.Path.{_≡_, refl, sym, _∙_}
 use mathlib.Core.Bool.{Bool, true, false, _||_, true≢false}
 use mathlib.Core.List.{List, [], _∷_, _++_}
 use mathlib.Core.Option.{Option, none, some, Option·none-ne-some}
 use lib.ListN.{length, getD, take, drop}
-use Rattle.lists.specs.Base.{isSome, any, removeAt, swapRemove}
-use Rattle.lists.proofs.Perm.{Perm, done, keep, flip, also, perm-sym, swapRemove-perm, All, Pairs, all-map, all-left, all-right, all-append}
+use Rattle.lists.specs.Base.{isSome, any, swapRemove}
+use Rattle.lists.proofs.Perm.{Perm, perm-sym, swapRemove-perm, All, Pairs, all-left, all-right, all-append}
+use Rattle.lists.proofs.Arrays.{drop-past, drop-within, removeAt-split}
+use Rattle.lists.proofs.Booleans.{or-false}
+use Rattle.lists.proofs.Every.{any-append, all-flip, any-perm}
+use Rattle.trust.proofs.Truth.{or-false-split}
 use Rattle.model.specs.declared.Rect.{Rect}
 use Rattle.model.specs.Types.{noRect}
 use Rattle.model.specs.Merge.{Pair, mergeAdjacentRects, firstPair, mergesAny}
 use Rattle.free_rects.specs.declared.Remainder.{Remainder}
 use Rattle.free_rects.specs.declared.Remainder.the-variants.{Nothing, One}
 use Rattle.free_rects.specs.FreeList.{remainderOf}
-use Rattle.free_rects.proofs.Arrays.{drop-past, drop-next}
 use Rattle.free_rects.proofs.Apart.{Apart, first-apart, apart-first, swap-apart}
 use Rattle.guillotine.specs.SheetWords.{rectAt, rectsIn}
 use Rattle.guillotine.specs.Insertions.{touches, touchesAny, others}
@@ -29,7 +32,7 @@ module _ (w : List ℕ) (kerf : ℕ) (r : Rect) (to : ℕ) (under : to ≤ getD 
   unfolding touches any
   touch-step i h =
       let here : getD (rectsIn w) i noRect ≡ rectAt w i = get-rects w i (omega arith) in
-      rw (drop-next to (rectsIn w) i noRect h (omega (arith, length-rects w)), here)
+      rw (drop-within to (rectsIn w) i noRect h (omega (arith, length-rects w)), here)
 
   pub touch-hit : (i : ℕ) → i < to → isSome (mergeAdjacentRects kerf (rectAt w i) r) ≡ true → touches kerf r (drop i (take to (rectsIn w))) ≡ true
   touch-hit i h e = rw (touch-step i h, e)
@@ -43,19 +46,6 @@ module _ (w : List ℕ) (kerf : ℕ) (r : Rect) (to : ℕ) (under : to ≤ getD 
   touch-end i h = rw (drop-past to i (rectsIn w) h)
 
 -- ---- one remainder, two, or none
-
-or-false : (b : Bool) → (b || false) ≡ b
-or-false true = refl
-or-false false = refl
-
-any-append : {A : Type 0} (p : A → Bool) (xs ys : List A) → any p (xs ++ ys) ≡ (any p xs || any p ys)
-unfolding any
-any-append p [] ys = refl
-any-append p (x ∷ xs) ys = go (p x) (any-append p xs ys)
-  where
-    go : (b : Bool) → any p (xs ++ ys) ≡ (any p xs || any p ys) → (b || any p (xs ++ ys)) ≡ ((b || any p xs) || any p ys)
-    go true e = refl
-    go false e = e
 
 pub touches-one : (kerf : ℕ) (r : Rect) (i : ℕ) (l : List Rect) → touchesAny kerf (r ∷ []) (others i l) ≡ (touches kerf r (take i l) || touches kerf r (drop (i + 1) l))
 unfolding touchesAny any touches
@@ -75,14 +65,6 @@ touches-two kerf a b = or-false _ ∙ or-false _
 -- each of the second list is apart from each of the first
 abbrev Across : ℕ → List Rect → List Rect → Type 0
 Across kerf old new = All (λ r. All (λ q. Apart kerf q r) old) new
-
-all-flip : {A B : Type 0} (R : A → B → Type 0) (xs : List A) (ys : List B) → All (λ y. All (λ x. R x y) xs) ys → All (λ x. All (λ y. R x y) ys) xs
-all-flip R [] ys a = tt
-all-flip R (x ∷ xs) ys a = (all-map _ _ (λ y t. t .0) ys a, all-flip R xs ys (all-map _ _ (λ y t. t .1) ys a))
-
-or-left : (a b : Bool) → (a || b) ≡ false → (a ≡ false) × (b ≡ false)
-or-left true b e = absurd (true≢false e)
-or-left false b e = (refl, e)
 
 or-both : (a b : Bool) → a ≡ false → b ≡ false → (a || b) ≡ false
 or-both a b e f = rw (e, f)
@@ -104,7 +86,7 @@ module _ (kerf : ℕ) where
   unfolding touches any
   touches-all r [] e = tt
   touches-all r (q ∷ old) e =
-      let t = or-left (isSome (mergeAdjacentRects kerf q r)) (touches kerf r old) e in
+      let t = or-false-split (isSome (mergeAdjacentRects kerf q r)) (touches kerf r old) e in
       (some-apart q r (t .0), touches-all r old (t .1))
 
   all-touches : (r : Rect) (old : List Rect) → All (λ q. Apart kerf q r) old → touches kerf r old ≡ false
@@ -116,7 +98,7 @@ module _ (kerf : ℕ) where
   unfolding touchesAny any
   touches-across old [] e = tt
   touches-across old (r ∷ new) e =
-      let t = or-left (touches kerf r old) (touchesAny kerf new old) e in
+      let t = or-false-split (touches kerf r old) (touchesAny kerf new old) e in
       (touches-all r old (t .0), touches-across old new (t .1))
 
   across-touches : (old new : List Rect) → Across kerf old new → touchesAny kerf new old ≡ false
@@ -162,8 +144,8 @@ module _ (kerf : ℕ) where
     touch-none : tested ≡ false → firstPair kerf (old ++ (b ++ r)) ≡ none
     unfolding tested
     touch-none e =
-        let t = or-left (touchesAny kerf b old) (touchesAny kerf r old || touchesAny kerf r b) e in
-        let u = or-left (touchesAny kerf r old) (touchesAny kerf r b) (t .1) in
+        let t = or-false-split (touchesAny kerf b old) (touchesAny kerf r old || touchesAny kerf r b) e in
+        let u = or-false-split (touchesAny kerf r old) (touchesAny kerf r b) (t .1) in
         apart-first kerf (old ++ (b ++ r))
         (pairs-join old (b ++ r) apart (pairs-join b r one two (touches-across b r (u .1)))
         (all-append _ b r (touches-across old b (t .0)) (touches-across old r (u .0))))
@@ -179,32 +161,13 @@ module _ (kerf : ℕ) where
 
 -- ---- in whatever order the old rectangles are
 
-any-perm : {A : Type 0} (p : A → Bool) {xs ys : List A} → Perm xs ys → any p xs ≡ any p ys
-unfolding any
-any-perm p done = refl
-any-perm p (keep x e) = ap (λ (b : Bool). p x || b) (any-perm p e)
-any-perm p (flip x y xs) = swap-or (p x) (p y) (any p xs)
-  where
-    swap-or : (a b c : Bool) → (a || (b || c)) ≡ (b || (a || c))
-    swap-or true true c = refl
-    swap-or true false c = refl
-    swap-or false b c = refl
-any-perm p (also e f) = any-perm p e ∙ any-perm p f
-
 touches-perm : (kerf : ℕ) (new : List Rect) {xs ys : List Rect} → Perm xs ys → touchesAny kerf new xs ≡ touchesAny kerf new ys
 unfolding touchesAny any touches
 touches-perm kerf [] e = refl
 touches-perm kerf (r ∷ new) e = rw (any-perm (λ q. isSome (mergeAdjacentRects kerf q r)) e, touches-perm kerf new e)
 
-others-removed : (i : ℕ) (l : List Rect) → removeAt i l ≡ take i l ++ drop (suc i) l
-unfolding removeAt
-others-removed zero [] = refl
-others-removed (suc i) [] = refl
-others-removed zero (x ∷ l) = refl
-others-removed (suc i) (x ∷ l) = ap {B = List Rect} (λ m. x ∷ m) (others-removed i l)
-
 others-perm : (i : ℕ) (l : List Rect) → i < length l → Perm (others i l) (swapRemove noRect i l)
-others-perm i l h = rw (add-one i, ← others-removed i l) (perm-sym (swapRemove-perm noRect l i h))
+others-perm i l h = rw (add-one i, ← removeAt-split i l) (perm-sym (swapRemove-perm noRect l i h))
 
 remainder-apart : (kerf : ℕ) (r : Remainder) → Pairs (Apart kerf) (remainderOf r)
 remainder-apart kerf Nothing = tt

@@ -6,34 +6,26 @@ use native.Mathlib.Omega.{arith}
 use mathlib.Core.Path.{_≡_, refl, sym, ap, _∙_}
 use mathlib.Core.List.{List, [], _∷_, _++_, map, append-assoc}
 use lib.ListN.{length, getD, set, take, drop, length-append, length-take, length-drop, length-set, take-append-drop, drop-of-length-le}
-use lib.Seq.{take-all, take-suc, take-suc-set, drop-cons, sets-eq, take-at, drop-append-add, drop-drop, drop-set-lt, ext-getD, length-take-le}
+use lib.Seq.{take-all, take-suc, take-suc-set, drop-cons, take-at, drop-append-add, drop-drop, drop-set-lt, ext-getD, length-take-le}
 use Rattle.lists.specs.Base.{countFrom, concatMap, swapRemove}
 use Rattle.lists.proofs.InPlace.{swapRemove-index}
+use Rattle.lists.proofs.Counts.{length-count-map, getD-countFrom}
+use Rattle.lists.proofs.Maps.{concatMap-append}
+use Rattle.trust.proofs.RoundTrip.{waste-size}
 use Rattle.model.specs.declared.Rect.{Rect}
 use Rattle.model.specs.Types.{rect, noRect}
-use Rattle.guillotine.specs.SheetWords.{rectAt, rectsIn, rectWords, putRect, putRects, withRects, Block, mostRects, blockWords}
+use Rattle.model.specs.Plan.{rectWords}
+use Rattle.guillotine.specs.SheetWords.{rectAt, rectsIn, putRect, putRects, withRects, Block, mostRects, blockWords}
 
 -- ---- reading
 
-module _ {A : Type 0} (f : ℕ → A) where
-  count-length : (i n : ℕ) → length (map f (countFrom i n)) ≡ n
-  unfolding countFrom
-  count-length i zero = refl
-  count-length i (suc n) = ap suc (count-length (suc i) n)
-
-  count-get : (i n k : ℕ) (d : A) → k < n → getD (map f (countFrom i n)) k d ≡ f (i + k)
-  unfolding countFrom
-  count-get i zero k d h = absurd (not-suc-le-zero h)
-  count-get i (suc n) zero d h = let here : i ≡ i + 0 = omega arith in ap f here
-  count-get i (suc n) (suc k) d h = let next : suc i + k ≡ i + suc k = omega arith in count-get (suc i) n k d (le-of-suc-le-suc h) ∙ ap f next
-
 pub length-rects : (w : List ℕ) → length (rectsIn w) ≡ getD w 0 0
 unfolding rectsIn
-length-rects w = count-length (rectAt w) 0 (getD w 0 0)
+length-rects w = length-count-map (rectAt w) 0 (getD w 0 0)
 
 pub get-rects : (w : List ℕ) (k : ℕ) → k < getD w 0 0 → getD (rectsIn w) k noRect ≡ rectAt w k
 unfolding rectsIn
-get-rects w k h = let here : 0 + k ≡ k = omega arith in count-get (rectAt w) 0 (getD w 0 0) k noRect h ∙ ap (rectAt w) here
+get-rects w k h = let here : 0 + k ≡ k = omega arith in getD-countFrom (rectAt w) noRect 0 (getD w 0 0) k h ∙ ap (rectAt w) here
 
 -- the rectangle at i, and those behind it
 pub drop-rects : (w : List ℕ) (i : ℕ) → i < getD w 0 0 → drop i (rectsIn w) ≡ rectAt w i ∷ drop (i + 1) (rectsIn w)
@@ -46,25 +38,6 @@ drop-rects-end w i h = drop-of-length-le (rectsIn w) {i = i} (omega (arith, leng
 
 -- ---- writing
 
--- four stores in a row
-pub put-four : (w : List ℕ) (at x y z u : ℕ) → at + 4 ≤ length w
-    → set (set (set (set w at x) (at + 1) y) (at + 2) z) (at + 3) u ≡ take at w ++ ((x ∷ y ∷ z ∷ u ∷ []) ++ drop (at + 4) w)
-put-four w at x y z u h =
-    let one : at + 1 ≡ suc at = omega arith in
-    let two : at + 2 ≡ suc (suc at) = omega arith in
-    let three : at + 3 ≡ suc (suc (suc at)) = omega arith in
-    rw (one, two, three) (sets-eq (x ∷ y ∷ z ∷ u ∷ []) w at h) ∙ append-assoc (take at w) (x ∷ y ∷ z ∷ u ∷ []) (drop (at + 4) w)
-
-words-append : (a b : List Rect) → concatMap rectWords (a ++ b) ≡ concatMap rectWords a ++ concatMap rectWords b
-unfolding concatMap
-words-append [] b = refl
-words-append (r ∷ a) b = ap {B = List ℕ} (λ l. r .x ∷ r .y ∷ r .width ∷ r .length ∷ l) (words-append a b)
-
-pub length-words : (rs : List Rect) → length (concatMap rectWords rs) ≡ 4 * length rs
-unfolding concatMap
-length-words [] = refl
-length-words (r ∷ rs) = omega (arith, length-words rs)
-
 -- the rectangle behind the first ones
 pub put-snoc : (w : List ℕ) (rs : List Rect) (r : Rect) (k : ℕ) → length rs ≡ k → 4 * k + 5 ≤ length w
     → putRect (putRects w rs) k r ≡ putRects w (rs ++ (r ∷ []))
@@ -73,7 +46,7 @@ put-snoc w rs r k e h =
     let front : List ℕ = take 1 w ++ concatMap rectWords rs in
     let rest : List ℕ = drop (4 * length rs + 1) w in
     let whole : take 1 w ++ (concatMap rectWords rs ++ rest) ≡ front ++ rest = sym (append-assoc (take 1 w) (concatMap rectWords rs) rest) in
-    let size : length front ≡ 4 * k + 1 = simp (length-append, length-take) (omega (arith, length-words rs)) in
+    let size : length front ≡ 4 * k + 1 = simp (length-append, length-take) (omega (arith, waste-size rs)) in
     let far : 4 * k + 5 ≡ length front + 4 = omega arith in
     let past : drop (4 * k + 5) (front ++ rest) ≡ drop (4 * length (rs ++ (r ∷ [])) + 1) w =
     ap (λ (n : ℕ). drop n (front ++ rest)) far ∙ drop-append-add front rest 4 ∙ drop-drop 4 (4 * length rs + 1) w
@@ -83,7 +56,7 @@ put-snoc w rs r k e h =
     ∙ ap (λ (l : List ℕ). l ++ (rectWords r ++ drop (4 * k + 5) (front ++ rest))) (take-at front rest (4 * k + 1) size)
     ∙ ap (λ (l : List ℕ). front ++ (rectWords r ++ l)) past
     ∙ append-assoc (take 1 w) (concatMap rectWords rs) _
-    ∙ ap (λ (l : List ℕ). take 1 w ++ l) (sym (append-assoc (concatMap rectWords rs) (rectWords r) _) ∙ ap (λ (l : List ℕ). l ++ drop (4 * length (rs ++ (r ∷ [])) + 1) w) (sym (words-append rs (r ∷ []))))
+    ∙ ap (λ (l : List ℕ). take 1 w ++ l) (sym (append-assoc (concatMap rectWords rs) (rectWords r) _) ∙ ap (λ (l : List ℕ). l ++ drop (4 * length (rs ++ (r ∷ [])) + 1) w) (sym (concatMap-append rectWords rs (r ∷ []))))
 
 pub put-none : (w : List ℕ) → putRects w [] ≡ w
 unfolding putRects concatMap
@@ -142,7 +115,7 @@ rects-with rs w =
 
 pub length-with : (rs : List Rect) (w : List ℕ) → 4 * length rs + 1 ≤ length w → length (withRects rs w) ≡ length w
 unfolding withRects
-length-with rs w h = simp (length-append, length-drop) (omega (arith, length-words rs))
+length-with rs w h = simp (length-append, length-drop) (omega (arith, waste-size rs))
 
 pub count-with : (rs : List Rect) (w : List ℕ) → getD (withRects rs w) 0 0 ≡ length rs
 unfolding withRects
@@ -155,7 +128,7 @@ drop-with rs w n h =
     let m = n - (4 * length rs + 1) in
     let rest = drop (4 * length rs + 1) w in
     let front : List ℕ = length rs ∷ concatMap rectWords rs in
-    let at : n ≡ length front + m = omega (arith, length-words rs) in
+    let at : n ≡ length front + m = omega (arith, waste-size rs) in
     let back : 4 * length rs + 1 + m ≡ n = omega arith in
     ap (λ (k : ℕ). drop k (front ++ rest)) at ∙ drop-append-add front rest m ∙ drop-drop m (4 * length rs + 1) w ∙ ap (λ (k : ℕ). drop k w) back
 
@@ -270,7 +243,7 @@ remove-words w m i e h k =
     let behind : drop (4 * m + 1) w ≡ rectWords r ++ rest = four-words w (4 * m + 1) (4 * suc m + 1) (omega arith) k in
     let body : concatMap rectWords qs ++ rest ≡ concatMap rectWords (take m qs) ++ drop (4 * m + 1) w =
     ap (λ (l : List Rect). concatMap rectWords l ++ rest) parted
-    ∙ ap (λ (l : List ℕ). l ++ rest) (words-append (take m qs) (r ∷ []))
+    ∙ ap (λ (l : List ℕ). l ++ rest) (concatMap-append rectWords (take m qs) (r ∷ []))
     ∙ append-assoc (concatMap rectWords (take m qs)) (concatMap rectWords (r ∷ [])) rest
     ∙ ap (λ (l : List ℕ). concatMap rectWords (take m qs) ++ l) (sym behind)
     in

@@ -1,13 +1,14 @@
 -- A sheet's free rectangles in lent words: the count, then four words a rectangle.
 use Prim.Native.Nat.{ℕ, _+_, _*_, _≤_}
 use mathlib.Core.Path.{_≡_}
-use mathlib.Core.List.{List, [], _∷_, _++_, map}
+use mathlib.Core.List.{List, _∷_, _++_, map}
 use lib.ListN.{length, getD, take, drop}
 use Rattle.lists.specs.Base.{range, concatMap}
 use Rattle.model.specs.declared.Rect.{Rect}
 use Rattle.model.specs.declared.PatternDirection.{PatternDirection}
 use Rattle.model.specs.Types.{rect}
 use Rattle.model.specs.Sheet.{GuillotineSheet}
+use Rattle.model.specs.Plan.{rectWords}
 
 unfoldable pub rectAt : List ℕ → ℕ → Rect
 rectAt words k =
@@ -16,9 +17,6 @@ rectAt words k =
 
 unfoldable pub rectsIn : List ℕ → List Rect
 rectsIn words = map (rectAt words) (range (getD words 0 0))
-
-abbrev pub rectWords : Rect → List ℕ
-rectWords r = r .x ∷ r .y ∷ r .width ∷ r .length ∷ []
 
 -- the words with rectangle k replaced, and with the first rectangles replaced
 unfoldable pub putRect : List ℕ → ℕ → Rect → List ℕ

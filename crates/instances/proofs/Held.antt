@@ -1,17 +1,23 @@
 -- The tables hold what the definition expands the project to.
-use Prim.Native.Nat.{ℕ, suc, _+_, _-_, _*_, _/_, _≤_, _<_}
+use Prim.Native.Nat.{ℕ, _+_, _-_, _*_, _/_, _≤_, _<_}
 use native.Mathlib.Nat.{le-trans, mul-le-mul-left}
 use native.Mathlib.Omega.{arith}
 use mathlib.Core.Path.{_≡_, refl, sym, ap, ap₂, _∙_, subst}
 use mathlib.Core.Bool.{false}
-use mathlib.Core.List.{List, [], _∷_, _++_, map, append-assoc}
+use mathlib.Core.List.{List, [], _∷_, _++_, map}
 use mathlib.Core.Option.{none}
 use lib.Dec.{lit≤}
 use lib.ListN.{length, getD, take, drop, replicate, length-append, length-drop, length-replicate}
 use lib.Seq.{take-at, drop-at, length-take-le, getD-take}
 use borrow.Author.Tests.{ltb-false}
 use Rattle.lists.specs.Base.{range, concatMap, sum, sortBy}
+use Rattle.lists.specs.Parts.{patch}
 use Rattle.lists.proofs.Perm.{All, all-left, all-right, length-perm, sortBy-perm}
+use Rattle.lists.proofs.Every.{all-get}
+use Rattle.lists.proofs.Sums.{length-countFrom, length-map, length-counted}
+use Rattle.lists.proofs.Arrays.{drop-replicate}
+use Rattle.lists.proofs.Counts.{map-range}
+use Rattle.lists.proofs.Maps.{concatMap-concatMap, concatMap-map}
 use Rattle.model.specs.declared.StockInstance.{StockInstance}
 use Rattle.model.specs.declared.CutInstance.{CutInstance}
 use Rattle.model.specs.Project.{Piece, projectOf, stockStart, stockLength, cutsStart, cutsLength, recordLength}
@@ -19,43 +25,22 @@ use Rattle.model.specs.Refusal.{Check, RecordRule, stockRule, cutRule, recordCh
 use Rattle.model.specs.Expand.{compareStock, stockInstances, cutInstances, expandProject}
 use Rattle.trust.proofs.Checks.{file-passed}
 use Rattle.orders.specs.Rows.{stockWords, cutWords, stockRow, cutRow, rowAt, stockAt, stockOf, cutAt, sortedOrder}
-use Rattle.orders.proofs.Rows.{length-rows, row-within, row-of, stock-sized, cut-sized, stock-known, cut-known, map-range}
-use Rattle.orders.proofs.Insertion.{all-getD}
-use Rattle.orders.proofs.Order.{length-count, length-sorted, sorted-below, sorted-stock-rows, drop-replicate}
+use Rattle.orders.proofs.Rows.{length-rows, row-within, row-of, stock-sized, cut-sized, stock-known, cut-known}
+use Rattle.orders.proofs.Order.{length-sorted, sorted-below, sorted-stock-rows}
 use Rattle.project.specs.declared.Kind.{Kind}
 use Rattle.project.specs.Records.{recordsFrom}
-use Rattle.instances.specs.Tables.{Holds, rowsOf, rowBy, patch}
-use Rattle.instances.proofs.Tables.{concatMap-map}
+use Rattle.instances.specs.Tables.{Holds, rowsOf, rowBy}
 use Rattle.project.proofs.Shape.{stock-is, cuts-is}
 
 -- ---- instances are as many as the quantities say
 
-length-map : {A B : Type 0} (f : A → B) (xs : List A) → length (map f xs) ≡ length xs
-length-map f [] = refl
-length-map f (x ∷ xs) = ap suc (length-map f xs)
-
-length-concatMap : {A : Type 0} (f : Piece → List A) → ((p : Piece) → length (f p) ≡ p .quantity) → (ps : List Piece) → length (concatMap f ps) ≡ totalQuantity ps
-unfolding concatMap sum
-length-concatMap f e [] = refl
-length-concatMap f e (p ∷ ps) = length-append (f p) (concatMap f ps) ∙ ap₂ (λ (m n : ℕ). m + n) (e p) (length-concatMap f e ps)
-
 stock-count : (ps : List Piece) → length (concatMap stockInstances ps) ≡ totalQuantity ps
 unfolding stockInstances
-stock-count = length-concatMap stockInstances (λ p. length-map _ (range (p .quantity)) ∙ length-count 0 (p .quantity))
+stock-count = length-counted (λ p. p .quantity) stockInstances (λ p. length-map _ (range (p .quantity)) ∙ length-countFrom 0 (p .quantity))
 
 cut-count : (ps : List Piece) → length (concatMap cutInstances ps) ≡ totalQuantity ps
 unfolding cutInstances
-cut-count = length-concatMap cutInstances (λ p. length-map _ (range (p .quantity)) ∙ length-count 0 (p .quantity))
-
-concatMap-append : {A : Type 0} (f : A → List ℕ) (xs ys : List A) → concatMap f (xs ++ ys) ≡ concatMap f xs ++ concatMap f ys
-unfolding concatMap
-concatMap-append f [] ys = refl
-concatMap-append f (x ∷ xs) ys = ap (λ (r : List ℕ). f x ++ r) (concatMap-append f xs ys) ∙ sym (append-assoc (f x) (concatMap f xs) (concatMap f ys))
-
-concatMap-concatMap : {A B : Type 0} (f : B → List ℕ) (g : A → List B) (xs : List A) → concatMap (λ x. concatMap f (g x)) xs ≡ concatMap f (concatMap g xs)
-unfolding concatMap
-concatMap-concatMap f g [] = refl
-concatMap-concatMap f g (x ∷ xs) = ap (λ (r : List ℕ). concatMap f (g x) ++ r) (concatMap-concatMap f g xs) ∙ sym (concatMap-append f (g x) (concatMap g xs))
+cut-count = length-counted (λ p. p .quantity) cutInstances (λ p. length-map _ (range (p .quantity)) ∙ length-countFrom 0 (p .quantity))
 
 -- ---- a table of zeros whose front was written
 
@@ -104,7 +89,7 @@ module _ (raw order : List ℕ) (count m : ℕ) (e : order ≡ sortedOrder stock
   pub order-row : stockWords * count ≤ length raw → (k : ℕ) → k < count → stockWords * getD order k 0 + stockWords ≤ length raw
   order-row h k b =
       let below : getD (sortedOrder stockWords raw count) k 0 < count =
-      all-getD (λ i. i < count) 0 (sortedOrder stockWords raw count) k (sorted-below stockWords raw count) (omega (arith, length-sorted stockWords raw count))
+      all-get (λ i. i < count) (sortedOrder stockWords raw count) k 0 (sorted-below stockWords raw count) (omega (arith, length-sorted stockWords raw count))
       in
       let same : getD order k 0 ≡ getD (sortedOrder stockWords raw count) k 0 = sym (getD-take count order k 0 b) ∙ ap (λ (o : List ℕ). getD o k 0) order-front in
       omega (arith, row-within stockWords (getD order k 0) count (omega arith))
@@ -115,7 +100,7 @@ module _ (raw order : List ℕ) (count m : ℕ) (e : order ≡ sortedOrder stock
       let front : List ℕ = take count order in
       let long : length front ≡ count = ap length order-front ∙ length-sorted stockWords raw count in
       let read : map (λ k. getD order k 0) (range (length front)) ≡ front = map-range 0 (λ k. getD order k 0) front (λ k h. sym (getD-take count order k 0 (omega arith))) in
-      concatMap-map (rowAt stockWords raw) (λ k. getD order k 0) (range count)
+      sym (concatMap-map (rowAt stockWords raw) (λ k. getD order k 0) (range count))
       ∙ ap (concatMap (rowAt stockWords raw)) (ap (λ (n : ℕ). map (λ k. getD order k 0) (range n)) (sym long) ∙ read ∙ order-front)
 
 module _ (raw : List ℕ) (n : ℕ) (fits : stockWords * n ≤ length raw) where

@@ -2,19 +2,21 @@
 use Prim.Native.Nat.{ℕ, zero, suc, _+_, _-_, _*_, _/_, _%_, _^_, _≤_, _<_}
 use native.Mathlib.Omega.{arith}
 use mathlib.Core.Path.{_≡_, refl, sym, ap, _∙_}
-use mathlib.Core.List.{List, [], _∷_, _++_, map}
+use mathlib.Core.List.{List, [], _∷_, _++_}
 use lib.Dec.{eqb, lit≤}
 use lib.ListN.{length, getD, drop, length-append, length-take, length-drop}
 use lib.Seq.{length-take-le}
 use Rattle.lists.specs.Base.{countFrom, range, concatMap}
+use Rattle.lists.specs.Parts.{patch}
+use Rattle.lists.proofs.Maps.{concatMap-map}
+use Rattle.lists.proofs.Parts.{patch-nil, length-patch, patch-append}
 use Rattle.model.specs.Types.{patternCode, patternOf, flagCode}
 use Rattle.model.specs.Project.{Piece}
 use Rattle.model.specs.Expand.{stockInstances, cutInstances}
 use Rattle.orders.specs.Rows.{stockWords, stockRow, cutRow}
 use Rattle.project.specs.declared.Kind.{Kind}
 use Rattle.project.specs.Records.{recordAt, recordsFrom}
-use Rattle.instances.specs.Tables.{wordsOf, rowOf, rowsOf, rowBy, patch}
-use Rattle.instances.proofs.Patch.{patch-none, length-patch, patch-append}
+use Rattle.instances.specs.Tables.{wordsOf, rowOf, rowsOf, rowBy}
 
 -- ---- codes
 
@@ -106,23 +108,17 @@ module _ (f : ℕ → List ℕ) (n : ℕ) (words₀ : List ℕ) (at₀ : ℕ) (f
     pub writing-end : n ≤ i → (words ≡ patch words₀ at₀ (concatMap f (range n))) × (at ≡ at₀ + length (concatMap f (range n)))
     writing-end h =
         let none = rows-none f n i h in
-        (patch-none words at ∙ ap (patch words at) (sym none) ∙ w .whole, omega (arith, w .place, ap length none))
+        (patch-nil words at ∙ ap (patch words at) (sym none) ∙ w .whole, omega (arith, w .place, ap length none))
 
 -- ---- the rows of a record, and of records, by number
 
-module _ {A B : Type 0} (f : B → List ℕ) (g : A → B) where
-  pub concatMap-map : (xs : List A) → concatMap (λ x. f (g x)) xs ≡ concatMap f (map g xs)
-  unfolding concatMap
-  concatMap-map [] = refl
-  concatMap-map (x ∷ xs) = ap (λ (r : List ℕ). f (g x) ++ r) (concatMap-map xs)
-
 rows-of : (k : Kind) (p : Piece) → concatMap (rowOf k p) (range (p .quantity)) ≡ rowsOf k p
 unfolding stockInstances cutInstances stockRow cutRow
-rows-of Kind.Stock p = concatMap-map stockRow _ (range (p .quantity))
-rows-of Kind.Cut p = concatMap-map cutRow _ (range (p .quantity))
+rows-of Kind.Stock p = sym (concatMap-map stockRow _ (range (p .quantity)))
+rows-of Kind.Cut p = sym (concatMap-map cutRow _ (range (p .quantity)))
 
 records-rows : (k : Kind) (bytes : List ℕ) (base n : ℕ) → concatMap (λ i. rowsOf k (recordAt bytes base i)) (range n) ≡ concatMap (rowsOf k) (recordsFrom bytes base 0 n)
-records-rows k bytes base n = concatMap-map (rowsOf k) (recordAt bytes base) (range n)
+records-rows k bytes base n = sym (concatMap-map (rowsOf k) (recordAt bytes base) (range n))
 
 -- the loop over a record's instances, in terms of its rows
 module _ (k : Kind) (p : Piece) (words₀ : List ℕ) (from : ℕ) where

@@ -1,7 +1,7 @@
 -- The instance tables of a project, as words.
-use Prim.Native.Nat.{ℕ, _+_, _-_, _*_, _/_, _%_, _^_}
+use Prim.Native.Nat.{ℕ, _-_, _*_, _/_, _%_, _^_}
 use mathlib.Core.Path.{_≡_}
-use mathlib.Core.List.{List, [], _∷_, _++_}
+use mathlib.Core.List.{List, [], _∷_}
 use lib.Dec.{eqb}
 use lib.ListN.{length, getD, take, drop, replicate}
 use Rattle.lists.specs.Base.{concatMap}
@@ -31,10 +31,6 @@ rowOf Kind.Cut p n =
 abbrev pub rowsOf : Kind → Piece → List ℕ
 rowsOf Kind.Stock p = concatMap stockRow (stockInstances p)
 rowsOf Kind.Cut p = concatMap cutRow (cutInstances p)
-
--- the words from index a on replaced by b, all else as found
-abbrev pub patch : List ℕ → ℕ → List ℕ → List ℕ
-patch l a b = take a l ++ (b ++ drop (a + length b) l)
 
 -- the stock row that the k-th number of an order numbers
 abbrev pub rowBy : List ℕ → List ℕ → ℕ → List ℕ

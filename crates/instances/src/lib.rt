@@ -8,13 +8,14 @@ ghost use Prim.Native.Nat.{ℕ, _+_, _*_, _/_, _%_, _^_, _≤_, _<_};
 ghost use lib.Dec.{eqb};
 ghost use lib.ListN.{length, getD, take, drop};
 ghost use Rattle.lists.specs.Base.{concatMap, range};
+ghost use Rattle.lists.specs.Parts.{patch};
 ghost use Rattle.model.specs.Types.{patternCode, patternOf, flagCode};
 ghost use Rattle.model.specs.Project.{projectOf, recordLength};
 ghost use Rattle.model.specs.Refusal.{fileRefusal};
 ghost use Rattle.model.specs.Expand.{expandProject};
 ghost use Rattle.orders.specs.Rows.{stockWords, cutWords, stockRow, cutRow, rowAt, sortedOrder};
 ghost use Rattle.project.specs.Records.{pieceOf, recordsFrom};
-ghost use Rattle.instances.specs.Tables.{Holds, wordsOf, rowOf, rowsOf, rowBy, patch};
+ghost use Rattle.instances.specs.Tables.{Holds, wordsOf, rowOf, rowsOf, rowBy};
 
 // ---- words
 

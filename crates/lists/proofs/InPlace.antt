@@ -1,12 +1,12 @@
 -- The list operations in the form that code on counted parts has, and the sizes that bound those parts.
-use Prim.Native.Nat.{ℕ, zero, suc, _+_, _-_, _*_, _≤_, _<_, min, Ordering}
-use native.Mathlib.Nat.{le-refl, le-trans, not-suc-le-zero, min-le-left}
+use Prim.Native.Nat.{ℕ, suc, _-_, _<_, Ordering}
+use native.Mathlib.Nat.{not-suc-le-zero}
 use native.Mathlib.Omega.{arith}
-use mathlib.Core.Path.{_≡_, refl, sym, ap, _∙_, subst}
+use mathlib.Core.Path.{_≡_, refl, sym, ap, _∙_}
 use mathlib.Core.Bool.{Bool, true, false, true≢false, false≢true}
 use mathlib.Core.List.{List, [], _∷_, _++_}
-use lib.ListN.{length, getD, take, set, length-set, length-take}
-use Rattle.lists.specs.Base.{if_then_else_, isGreater, lastOr, dropLast, swapRemove, insertBy, sortBy, retain}
+use lib.ListN.{length, getD, take, set, length-set}
+use Rattle.lists.specs.Base.{if_then_else_, isGreater, lastOr, dropLast, swapRemove, insertBy, sortBy}
 
 module _ {A : Type 0} where
   -- ---- swap_remove by index

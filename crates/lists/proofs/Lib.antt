@@ -5,3 +5,12 @@ pub mod SortOn
 pub mod Sorting
 pub mod Sums
 pub mod FirstBest
+pub mod Booleans
+pub mod Numbers
+pub mod Options
+pub mod Every
+pub mod Kept
+pub mod Maps
+pub mod Counts
+pub mod Arrays
+pub mod Parts

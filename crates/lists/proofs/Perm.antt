@@ -1,7 +1,7 @@
 -- Lists up to order: what holds of all elements, of all pairs, or of a sum does not depend on the order of a list.
 -- The free rectangles are swap-removed and merged, so every law of a sheet goes through these.
 use Prim.Native.Nat.{ℕ, zero, suc, _+_, _<_, Ordering}
-use native.Mathlib.Nat.{le-of-suc-le-suc, not-suc-le-zero, add-assoc, add-comm, add-left-comm}
+use native.Mathlib.Nat.{le-of-suc-le-suc, not-suc-le-zero, add-left-comm}
 use mathlib.Core.Bool.{Bool, true, false}
 use mathlib.Core.Path.{_≡_, refl, sym, ap, _∙_, subst}
 use mathlib.Core.Logic.{_⊎_, inl, inr}

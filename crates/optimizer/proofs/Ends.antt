@@ -1,17 +1,15 @@
 -- The ways the entry ends, and what the definition says of each.
-use Prim.Native.Nat.{ℕ, suc, _≤_, _<_}
-use native.Mathlib.Omega.{arith}
-use mathlib.Core.Path.{_≡_, refl, sym, ap, _∙_, subst}
-use mathlib.Core.Logic.{_⊎_, inl, inr}
-use mathlib.Core.Bool.{Bool, true, false, not, _&&_}
-use mathlib.Core.List.{List, [], _∷_, _++_}
-use mathlib.Core.Option.{Option, none, some}
+use Prim.Native.Nat.{ℕ, _≤_, _<_}
+use mathlib.Core.Path.{_≡_, sym, ap, _∙_, subst}
+use mathlib.Core.Logic.{_⊎_}
+use mathlib.Core.Bool.{true, false}
+use mathlib.Core.List.{List, [], _++_}
+use mathlib.Core.Option.{none, some}
 use lib.ListN.{length, drop, replicate}
 use lib.Seq.{drop-drop}
-use Rattle.lists.specs.Base.{if_then_else_, isEmpty, isSome}
+use Rattle.lists.specs.Base.{isEmpty}
 use Rattle.model.specs.declared.BaselineGuillotineHeuristic.{BaselineGuillotineHeuristic}
 use Rattle.model.specs.declared.LayoutKind.{LayoutKind}
-use Rattle.model.specs.declared.CutInstance.{CutInstance}
 use Rattle.model.specs.Types.{layoutOf, effortOf}
 use Rattle.model.specs.Fitness.{one}
 use Rattle.model.specs.Candidate.{Candidate}
@@ -140,16 +138,6 @@ pub searched-some : (rows : List BaselineGuillotineHeuristic) (inst : ProblemIns
     → searched rows LayoutKind.Guillotine inst n ≡ solution LayoutKind.Guillotine c
 unfolding searched
 searched-some rows inst n c e w = rw (e, searched, w)
-
--- ---- lists
-
-pub length-zero : {A : Type 0} (l : List A) → length l ≡ 0 → l ≡ []
-length-zero [] e = refl
-length-zero (x ∷ l) e = absurd (omega (arith, e))
-
-pub not-empty : {A : Type 0} (l : List A) → (length l ≡ 0 → ⊥) → isEmpty l ≡ false
-not-empty [] h = absurd (h refl)
-not-empty (x ∷ l) h = refl
 
 -- ---- the winner
 

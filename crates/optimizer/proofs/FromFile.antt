@@ -1,14 +1,12 @@
 -- The tables read from a file that no check refuses show the instance of its project.
-use Prim.Native.Nat.{ℕ, zero, suc, _*_, _≤_, _<_}
+use Prim.Native.Nat.{ℕ, suc, _*_, _≤_, _<_}
 use native.Mathlib.Omega.{arith}
-use mathlib.Core.Path.{_≡_, refl, sym, ap, _∙_, subst}
+use mathlib.Core.Path.{_≡_, sym, ap, _∙_, subst}
 use mathlib.Core.List.{List, [], _∷_, map}
 use mathlib.Core.Option.{none}
 use lib.ListN.{length, getD, take}
-use Rattle.lists.specs.Base.{concatMap, range}
+use Rattle.lists.specs.Base.{range}
 use Rattle.lists.proofs.Perm.{All}
-use Rattle.model.specs.declared.StockInstance.{StockInstance}
-use Rattle.model.specs.declared.CutInstance.{CutInstance}
 use Rattle.model.specs.Project.{projectOf}
 use Rattle.model.specs.Refusal.{fileRefusal}
 use Rattle.model.specs.Expand.{ProblemInstance, expandProject}

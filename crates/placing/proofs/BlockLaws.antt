@@ -1,25 +1,16 @@
 -- Laws of blocks: a block that is written is read back, and every other block and the words behind stay.
-use Prim.Native.Nat.{ℕ, zero, suc, _+_, _-_, _*_, _≤_, _<_}
+use Prim.Native.Nat.{ℕ, _+_, _-_, _*_, _≤_, _<_}
 use native.Mathlib.Omega.{arith}
 use mathlib.Core.Path.{_≡_, refl, sym, ap, _∙_}
 use mathlib.Core.Bool.{Bool, true, false}
-use mathlib.Core.List.{List, [], _∷_, _++_, append-assoc}
+use mathlib.Core.List.{List, _++_, append-assoc}
 use lib.Dec.{ltb}
 use lib.ListN.{length, take, drop, length-append, length-take, length-drop, take-append-drop}
-use lib.Seq.{take-add, take-at, drop-at, drop-drop, take-append-le, drop-append-le, drop-append-add, length-take-le, take-take}
+use lib.Seq.{take-at, drop-at, drop-drop, take-append-le, drop-append-le, drop-append-add, length-take-le}
 use borrow.Author.Tests.{ltb-true, ltb-false}
+use Rattle.lists.proofs.Parts.{part-take}
 use Rattle.candidate.proofs.Lists.{Other}
 use Rattle.placing.specs.Blocks.{blockOf, withBlock, behindBlocks}
-
--- a part, and a part of a front
-drop-take : (c n : ℕ) (l : List ℕ) → c ≤ length l → drop c (take (c + n) l) ≡ take n (drop c l)
-drop-take c n l h = ap (drop c) (take-add c n l) ∙ drop-at (take c l) (take n (drop c l)) c (length-take-le c l h)
-
-part-take : (c n a : ℕ) (l : List ℕ) → c + n ≤ a → a ≤ length l → take n (drop c (take a l)) ≡ take n (drop c l)
-part-take c n a l h k =
-    sym (drop-take c n (take a l) (omega (arith, length-take-le a l k)))
-    ∙ ap (drop c) (take-take (c + n) a l h)
-    ∙ drop-take c n l (omega arith)
 
 -- ---- a part of n words from index a on replaced by as many
 
@@ -40,7 +31,7 @@ module _ (l : List ℕ) (a n : ℕ) (room : a + n ≤ length l) (b : List ℕ) (
   part-before c m h =
       ap (take m) (drop-append-le c (take a l) (b ++ drop (a + n) l) (omega (arith, front)))
       ∙ take-append-le m (drop c (take a l)) (b ++ drop (a + n) l) (omega (arith, length-drop c (take a l), front))
-      ∙ part-take c m a l h (omega arith)
+      ∙ part-take c m a l h
 
   drop-behind : (c : ℕ) → a + n ≤ c → drop c replaced ≡ drop c l
   drop-behind c h =

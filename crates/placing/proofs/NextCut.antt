@@ -2,11 +2,12 @@
 use Prim.Native.Nat.{ℕ, _+_, _*_, _≤_, _<_}
 use native.Mathlib.Omega.{arith}
 use mathlib.Core.Path.{_≡_, sym, ap, ap₂, _∙_, subst}
-use mathlib.Core.List.{List, [], _∷_}
+use mathlib.Core.List.{List, _∷_}
 use mathlib.Core.Option.{some}
 use lib.ListN.{length, getD, take, drop, length-take}
 use lib.Seq.{length-take-le, getD-take}
 use Rattle.lists.proofs.Perm.{All, Pairs, all-map, all-both, all-left, all-right, in-all}
+use Rattle.lists.proofs.Every.{all-get}
 use Rattle.model.specs.declared.BaselineGuillotineHeuristic.{BaselineGuillotineHeuristic}
 use Rattle.model.specs.declared.StockInstance.{StockInstance}
 use Rattle.model.specs.declared.CutInstance.{CutInstance}
@@ -21,7 +22,7 @@ use Rattle.candidate.specs.declared.Candidate.{Candidate as Words}
 use Rattle.candidate.specs.Moves.{firstFitIn, takePlace}
 use Rattle.candidate.specs.Stands.{instanceIn, Tables, Stands, boardIn, cutIn, makingIn, binIn, sheetBoards, availableBoards, placedWords}
 use Rattle.candidate.proofs.Instances.{stock-count, cut-count, board-in, cut-in, cut-row}
-use Rattle.candidate.proofs.Lists.{Other, all-get}
+use Rattle.candidate.proofs.Lists.{Other}
 use Rattle.candidate.proofs.Standing.{RebuiltOn, boards-split, boards-once, boards-below, few-boards, few-placed, next-known, available-new}
 use Rattle.candidate.proofs.Placement.{SheetAfter, made, stayed, Placed, placed}
 use Rattle.placing.specs.Blocks.{blockOf, ShowsBin}

@@ -1,26 +1,24 @@
 -- Boards made bare one after the other.
-use Prim.Native.Nat.{ℕ, suc, _+_, _*_, _≤_, _<_}
+use Prim.Native.Nat.{ℕ, _+_, _*_, _≤_, _<_}
 use native.Mathlib.Omega.{arith}
 use mathlib.Core.Path.{_≡_, refl, sym, ap, _∙_, subst}
 use mathlib.Core.Bool.{Bool, true, false}
 use mathlib.Core.List.{List, [], _∷_, _++_}
 use lib.Dec.{eqb}
 use lib.ListN.{length, getD, take}
-use lib.Seq.{take-suc, take-all}
+use lib.Seq.{take-all}
 use borrow.Author.Tests.{eqb-true, eqb-false}
 use Rattle.lists.proofs.Perm.{All, all-map, all-append, all-left, all-right}
+use Rattle.lists.proofs.Every.{all-get}
+use Rattle.lists.proofs.Arrays.{take-next}
 use Rattle.model.specs.declared.StockInstance.{StockInstance}
 use Rattle.model.specs.Sheet.{newSheet}
 use Rattle.orders.specs.Rows.{stockAt}
 use Rattle.guillotine.specs.SheetWords.{rectsIn, withRects}
-use Rattle.candidate.proofs.Lists.{Other, all-get}
+use Rattle.candidate.proofs.Lists.{Other}
 use Rattle.placing.specs.Blocks.{blockOf, withBin, behindBlocks}
 use Rattle.placing.specs.Rebuilding.{Listed, OpensBoards}
 use Rattle.placing.proofs.Written.{written-rects, written-other, written-behind, new-size}
-
--- the first i + 1 of a list
-pub take-next : (l : List ℕ) (i : ℕ) → i < length l → take (i + 1) l ≡ take i l ++ (getD l i 0 ∷ [])
-take-next l i h = let e : i + 1 ≡ suc i = omega arith in ap (λ (n : ℕ). take n l) e ∙ take-suc l i 0 h
 
 module _ (stock boards before : List ℕ) where
   pub record Opening (free : List ℕ) (k : ℕ) : Type 0 where
@@ -51,11 +49,11 @@ module _ (stock boards before : List ℕ) (room : 261 * 64 ≤ length before) (l
         inside = omega arith;
         same = kept ∙ o .same;
         opens = record {
-          bare = rw (take-next boards k here)
+          bare = rw (take-next boards k 0 here)
               (all-append (λ b. rectsIn (blockOf after b) ≡ newSheet (stockAt stock b) .freeRects) (take k boards) (board ∷ [])
               (all-map (λ b. rectsIn (blockOf free b) ≡ newSheet (stockAt stock b) .freeRects) _ still (take k boards) (o .opens .bare)) (this, tt));
           others = λ b h.
-              let h′ : All (Other b) (take k boards ++ (board ∷ [])) = subst (All (Other b)) (take-next boards k here) h in
+              let h′ : All (Other b) (take k boards ++ (board ∷ [])) = subst (All (Other b)) (take-next boards k 0 here) h in
               other b (all-right (Other b) (take k boards) (board ∷ []) h′ .0) ∙ o .opens .others b (all-left (Other b) (take k boards) (board ∷ []) h′);
           behind = ap behindBlocks is ∙ written-behind free board (board-listed .0) free-room (newSheet (stockAt stock board)) size ∙ o .opens .behind;
         };

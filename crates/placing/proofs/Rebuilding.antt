@@ -1,12 +1,14 @@
 -- The boards made bare and the insertions made again are the sheets rebuilt; and what that is for a candidate, and for one board.
 use Prim.Native.Nat.{ℕ, _*_, _≤_, _<_}
 use native.Mathlib.Omega.{arith}
-use mathlib.Core.Path.{_≡_, refl, sym, ap, _∙_}
-use mathlib.Core.Bool.{Bool, true, false, _&&_}
+use mathlib.Core.Path.{_≡_, sym, ap, _∙_}
+use mathlib.Core.Bool.{Bool, true}
 use mathlib.Core.List.{List, [], _∷_, _++_, map, List·Memᴰ}
 use lib.ListN.{length, length-take}
 use Rattle.lists.specs.Base.{isSome, all}
 use Rattle.lists.proofs.Perm.{perm-sym, All, all-map, all-both, all-left, all-perm, in-all}
+use Rattle.lists.proofs.Counts.{range-below}
+use Rattle.lists.proofs.Booleans.{and-true}
 use Rattle.model.specs.declared.StockInstance.{StockInstance}
 use Rattle.model.specs.Sheet.{newSheet, rebuild}
 use Rattle.model.specs.Expand.{ProblemInstance}
@@ -18,7 +20,7 @@ use Rattle.candidate.specs.declared.Candidate.{Candidate as Words}
 use Rattle.candidate.specs.Entries.{boardOf, cutOf, onBoard}
 use Rattle.candidate.specs.Moves.{newWords}
 use Rattle.candidate.specs.Stands.{instanceIn, Tables, Stands, boardIn, insertionIn, makingIn, sheetBoards, availableBoards, placedWords, unusedNumbers}
-use Rattle.candidate.proofs.Lists.{Other, range-below}
+use Rattle.candidate.proofs.Lists.{Other}
 use Rattle.candidate.proofs.Instances.{stock-count, board-in, stock-row}
 use Rattle.candidate.proofs.Makings.{on-all}
 use Rattle.candidate.proofs.Standing.{boards-split, boards-below, few-placed}
@@ -104,7 +106,3 @@ unfolding rebuildsAll all makingIn
 board-rebuilds inst b words h =
     and-true (isSome (rebuild (inst .kerfWidth) (boardIn inst b) (map (insertionIn inst) (onBoard b words))))
     ∙ ap (λ (l : List ℕ). isSome (rebuild (inst .kerfWidth) (boardIn inst b) (map (insertionIn inst) l))) (on-all b words h)
-  where
-    and-true : (q : Bool) → (q && true) ≡ q
-    and-true true = refl
-    and-true false = refl

@@ -12,6 +12,9 @@ use lib.Seq.{take-all}
 use borrow.Author.Tests.{eqb-true, eqb-false}
 use Rattle.lists.specs.Base.{_>>=_, isSome, all, retain}
 use Rattle.lists.proofs.Perm.{All}
+use Rattle.lists.proofs.Every.{all-get}
+use Rattle.lists.proofs.Arrays.{take-next}
+use Rattle.lists.proofs.Options.{none-by}
 use Rattle.model.specs.declared.StockInstance.{StockInstance}
 use Rattle.model.specs.Sheet.{GuillotineSheet, Insertion, tryInsert, rebuild}
 use Rattle.model.specs.Expand.{ProblemInstance}
@@ -20,7 +23,7 @@ use Rattle.guillotine.specs.SheetWords.{rectsIn, withRects}
 use Rattle.candidate.specs.declared.Instance.{Instance}
 use Rattle.candidate.specs.Entries.{boardOf, cutOf, rowOf, onBoard}
 use Rattle.candidate.specs.Stands.{instanceIn, Tables, boardIn, insertionIn, makingIn, binIn}
-use Rattle.candidate.proofs.Lists.{Other, all-get}
+use Rattle.candidate.proofs.Lists.{Other}
 use Rattle.candidate.proofs.Instances.{stock-count, cut-count, board-in, cut-in, stock-row, cut-row}
 use Rattle.candidate.proofs.Makings.{rebuild-fails, rebuilt-bin, bare-rebuilt, bin-bare, making-append, making-other, bin-other, rebuilt-more, rebuilt-same}
 use Rattle.candidate.proofs.Standing.{RebuiltOn}
@@ -30,8 +33,6 @@ use Rattle.placing.specs.Rebuilding.{Listed, rebuildsAll, ShowsBare, Mak
 use Rattle.placing.proofs.NextCut.{shown-fillable}
 use Rattle.placing.proofs.Rebuilt.{rebuilt-stock}
 use Rattle.placing.proofs.Written.{written-size, written-rects, written-other, written-behind}
-use Rattle.placing.proofs.Tries.{is-none}
-use Rattle.placing.proofs.Opening.{take-next}
 
 -- ---- whether all are rebuilt
 
@@ -158,7 +159,7 @@ module _ (stock cuts : List ℕ) (n : Instance) (tables : Tables stock cuts n) (
     -- no place
     module _ (e : r ≡ false) where
       refuses : tryInsert kerf sheet (insertionIn inst word) ≡ none
-      refuses = is-none (tryInsert kerf sheet (insertionIn inst word)) (sym (into .answer) ∙ e)
+      refuses = none-by (tryInsert kerf sheet (insertionIn inst word)) (sym (into .answer) ∙ e)
 
       fails : rebuild kerf (boardIn inst board) (makingIn inst words board) ≡ none
       fails =
@@ -168,7 +169,7 @@ module _ (stock cuts : List ℕ) (n : Instance) (tables : Tables stock cuts n) (
           ∙ refuses
           in
           let whole : words ≡ (take i words ++ (word ∷ [])) ++ drop (i + 1) words =
-          sym (take-append-drop (i + 1) words) ∙ ap (λ (l : List ℕ). l ++ drop (i + 1) words) (take-next words i here) in
+          sym (take-append-drop (i + 1) words) ∙ ap (λ (l : List ℕ). l ++ drop (i + 1) words) (take-next words i 0 here) in
           ap (λ (l : List ℕ). rebuild kerf (boardIn inst board) (makingIn inst l board)) whole
           ∙ ap (rebuild kerf (boardIn inst board)) (making-append inst (take i words ++ (word ∷ [])) (drop (i + 1) words) board)
           ∙ rebuild-fails kerf (boardIn inst board) (makingIn inst (take i words ++ (word ∷ [])) board) (makingIn inst (drop (i + 1) words) board) first
@@ -230,8 +231,8 @@ module _ (stock cuts : List ℕ) (n : Instance) (tables : Tables stock cuts n) (
           record {
             inside = omega arith;
             same = kept ∙ m .same;
-            rebuilt = λ b. rw (take-next words i here) (rebuilt-next b);
-            shown = λ b h f. rw (take-next words i here) (shown-next b h f);
+            rebuilt = λ b. rw (take-next words i 0 here) (rebuilt-next b);
+            shown = λ b h f. rw (take-next words i 0 here) (shown-next b h f);
             others = λ b h. block-stays b (all-get (λ w. Other b (boardOf w)) words i 0 h here) ∙ m .others b h;
             behind = ap behindBlocks is ∙ written-behind free board small free-room t size ∙ m .behind;
           }

@@ -12,13 +12,15 @@ use borrow.Author.Tests.{leb-true, leb-false}
 use Rattle.lists.specs.Base.{isSome}
 use Rattle.lists.proofs.Perm.{All, all-map, all-both, all-append}
 use Rattle.lists.proofs.Sums.{length-map}
+use Rattle.lists.proofs.Every.{all-get, pairs-across}
+use Rattle.lists.proofs.Options.{none-by}
 use Rattle.model.specs.declared.StockInstance.{StockInstance}
 use Rattle.model.specs.Sheet.{GuillotineSheet, Insertion, newSheet, tryInsert}
 use Rattle.orders.specs.Rows.{stockWords, stockAt}
 use Rattle.guillotine.specs.SheetWords.{rectsIn, withRects, Shows}
 use Rattle.guillotine.specs.Insertions.{Ready}
 use Rattle.guillotine.proofs.Sheets.{new-ready}
-use Rattle.candidate.proofs.Lists.{Other, all-get, pairs-append}
+use Rattle.candidate.proofs.Lists.{Other}
 use Rattle.candidate.proofs.FirstFit.{Refuses, first-is, first-none}
 use Rattle.placing.specs.Blocks.{blockOf, withBin, behindBlocks}
 use Rattle.placing.specs.Fitting.{Fillable, InsertsOn, InsertsOnBoard, openedIf, Boards, Bins, FirstFits, TriesBoards}
@@ -29,10 +31,6 @@ use Rattle.placing.proofs.Written.{written-length, written-rects, writt
 all-same : (free bs : List ℕ) → All (λ b. blockOf free b ≡ blockOf free b) bs
 all-same free [] = tt
 all-same free (b ∷ bs) = (refl, all-same free bs)
-
-pub is-none : {A : Type 0} (o : Option A) → isSome o ≡ false → o ≡ none
-is-none none e = refl
-is-none (some a) e = absurd (true≢false e)
 
 -- a sheet that words show
 abbrev shown : List ℕ → StockInstance → GuillotineSheet
@@ -127,7 +125,7 @@ module _ (kerf : ℕ) (i : Insertion) (stock boards : List ℕ) (count sheets : 
         bare-other =
             all-map (λ s. All (Other s) (drop sheets (take count boards))) (λ s. Other s board)
             (λ s o. subst (Other s) bare-index (all-get (Other s) (drop sheets (take count boards)) (j - sheets) 0 o bare-inside))
-            (take sheets boards) (pairs-append Other (take sheets boards) (drop sheets (take count boards)) (rw split (ok .once)))
+            (take sheets boards) (pairs-across Other (take sheets boards) (drop sheets (take count boards)) (rw split (ok .once)))
           where
             split : take sheets boards ++ drop sheets (take count boards) ≡ take count boards
             split =
@@ -185,7 +183,7 @@ module _ (kerf : ℕ) (i : Insertion) (stock boards : List ℕ) (count sheets : 
         -- no: the words are as they were opened
         stays : r ≡ false → after ≡ opened
         stays e =
-            let nothing : tryInsert kerf this i ≡ none = is-none (tryInsert kerf this i) (sym (into-this .answer) ∙ e) in
+            let nothing : tryInsert kerf this i ≡ none = none-by (tryInsert kerf this i) (sym (into-this .answer) ∙ e) in
             into-this .words ∙ ap (λ (o : Option GuillotineSheet). elim o [ none ↦ opened | some t ↦ withBin opened board t ]) nothing
 
         bins-next : (bin : ℕ → GuillotineSheet) → take (j + 1) (map bin (take count boards)) ≡ take j (map bin (take count boards)) ++ (bin board ∷ [])
@@ -206,7 +204,7 @@ module _ (kerf : ℕ) (i : Insertion) (stock boards : List ℕ) (count sheets : 
               inside = omega arith;
               same = length-kept ∙ t .same;
               refused = λ bin h.
-                  let refuses : Refuses kerf i (bin board) = is-none (tryInsert kerf (bin board) i) (sym (tries (bin board) (o .shows bin h) .answer) ∙ e) in
+                  let refuses : Refuses kerf i (bin board) = none-by (tryInsert kerf (bin board) i) (sym (tries (bin board) (o .shows bin h) .answer) ∙ e) in
                   rw (bins-next bin) (all-append (Refuses kerf i) (take j (map bin (take count boards))) (bin board ∷ []) (t .refused bin h) (refuses, tt));
               kept = rw is (all-both _ _ _ (λ b x y. x ∙ y) (take sheets boards) (o .kept) (t .kept));
               behind = ap behindBlocks is ∙ o .behind ∙ t .behind;

@@ -3,37 +3,24 @@ use Prim.Native.Nat.{ℕ, suc, _+_, _-_, _*_, _≤_, _<_}
 use native.Mathlib.Numerals.{add-one}
 use native.Mathlib.Omega.{arith}
 use mathlib.Core.Path.{_≡_, refl, sym, ap, ap₂, _∙_}
-use mathlib.Core.List.{List, [], _∷_, _++_, map, append-nil, append-assoc}
-use lib.ListN.{length, set, take, drop, length-append}
+use mathlib.Core.List.{List, [], _∷_, _++_, map, append-nil}
+use lib.ListN.{length, set, take, length-append}
 use lib.Seq.{take-suc-set}
 use Rattle.lists.specs.Base.{concatMap}
+use Rattle.lists.specs.Parts.{patch}
 use Rattle.lists.proofs.Sums.{length-map, map-append}
+use Rattle.lists.proofs.Maps.{concatMap-append}
+use Rattle.lists.proofs.Parts.{length-patch, patch-nil, patch-append}
+use Rattle.trust.proofs.RoundTrip.{contents-length, contents-append}
 use Rattle.model.specs.Types.{stockArea}
 use Rattle.model.specs.Sheet.{GuillotineSheet, placedArea}
 use Rattle.model.specs.Plan.{sheetWords, contentsFrom}
-use Rattle.trust.proofs.Candidate.{concatMap-append}
-use Rattle.guide.specs.Lists.{patch}
-use Rattle.guide.proofs.Lists.{length-patch, patch-nil, patch-append}
 use Rattle.sheet_plan.specs.declared.Body.{Body}
 use Rattle.sheet_plan.specs.Replaying.{WritesSheet}
 use Rattle.plan.specs.Sheets.{bodiesOf, WritesFrom}
 use Rattle.plan.proofs.Swaps.{patch-swap}
 
 -- ---- contents and bodies
-
-contents-append : (at : ℕ) (bodies : List (List ℕ)) (body : List ℕ)
-    → contentsFrom at (bodies ++ (body ∷ [])) ≡ contentsFrom at bodies ++ ((at + length (concatMap (λ (b : List ℕ). b) bodies)) ∷ length body ∷ [])
-unfolding contentsFrom concatMap
-contents-append at [] body = let here : at ≡ at + 0 = omega arith in ap (λ (m : ℕ). m ∷ length body ∷ []) here
-contents-append at (b ∷ bodies) body =
-    let rest : List ℕ = concatMap (λ (x : List ℕ). x) bodies in
-    let there : at + length b + length rest ≡ at + length (b ++ rest) = omega (arith, length-append b rest) in
-    ap {B = List ℕ} (λ r. at ∷ length b ∷ r) (contents-append (at + length b) bodies body ∙ ap (λ (m : ℕ). contentsFrom (at + length b) bodies ++ (m ∷ length body ∷ [])) there)
-
-pub contents-length : (at : ℕ) (bodies : List (List ℕ)) → length (contentsFrom at bodies) ≡ 2 * length bodies
-unfolding contentsFrom
-contents-length at [] = refl
-contents-length at (b ∷ bodies) = omega (arith, contents-length (at + length b) bodies)
 
 module _ (sheets : List GuillotineSheet) (s : GuillotineSheet) where
   pub bodies-more : bodiesOf (sheets ++ (s ∷ [])) ≡ bodiesOf sheets ++ sheetWords s
@@ -44,7 +31,8 @@ module _ (sheets : List GuillotineSheet) (s : GuillotineSheet) where
       ∙ ap (λ (r : List ℕ). bodiesOf sheets ++ r) (append-nil (sheetWords s))
 
   contents-more : (start : ℕ) → contentsFrom start (map sheetWords (sheets ++ (s ∷ []))) ≡ contentsFrom start (map sheetWords sheets) ++ ((start + length (bodiesOf sheets)) ∷ length (sheetWords s) ∷ [])
-  contents-more start = ap (contentsFrom start) (map-append sheetWords sheets (s ∷ [])) ∙ contents-append start (map sheetWords sheets) (sheetWords s)
+  unfolding contentsFrom
+  contents-more start = ap (contentsFrom start) (map-append sheetWords sheets (s ∷ [])) ∙ contents-append start (map sheetWords sheets) (sheetWords s ∷ [])
 
 -- a number noted behind the others
 noted : (f : GuillotineSheet → ℕ) (sheets : List GuillotineSheet) (s : GuillotineSheet) (l : List ℕ) (v : ℕ) → length sheets < length l → v ≡ f s

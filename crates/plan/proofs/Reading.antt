@@ -1,12 +1,11 @@
 -- One sheet's part of a plan: where it is, and where there is none.
-use Prim.Native.Nat.{ℕ, _+_, _*_, _≤_, _<_}
-use native.Mathlib.Omega.{arith}
+use Prim.Native.Nat.{ℕ, _+_, _≤_, _<_}
 use mathlib.Core.Path.{_≡_, refl}
 use mathlib.Core.Bool.{Bool, true, false, _&&_}
 use mathlib.Core.List.{List, []}
 use lib.Dec.{leb, ltb}
 use lib.ListN.{length, getD, take, drop}
-use borrow.Author.Tests.{le-leb, lt-ltb, leb-true, ltb-true}
+use borrow.Author.Tests.{leb-true, ltb-true}
 use Rattle.lists.specs.Base.{if_then_else_}
 use Rattle.model.specs.Plan.{entryOf, partOf, sheetPart}
 
@@ -16,10 +15,6 @@ module _ (p : List ℕ) (k : ℕ) where
 
   abbrev size : ℕ
   size = getD p (entryOf k + 1) 0
-
-  pub sheet-some : 4 ≤ length p → k < getD p 0 0 → entryOf k + 2 ≤ length p → start + size ≤ length p → sheetPart p k ≡ take size (drop start p)
-  unfolding sheetPart partOf
-  sheet-some a b c d = rw (le-leb 4 (length p) a, lt-ltb k (getD p 0 0) b, le-leb (entryOf k + 2) (length p) c, le-leb (start + size) (length p) d)
 
   pub sheet-none : (4 ≤ length p → k < getD p 0 0 → entryOf k + 2 ≤ length p → start + size ≤ length p → ⊥) → sheetPart p k ≡ []
   unfolding sheetPart partOf

@@ -1,18 +1,18 @@
 -- Each sheet of a candidate under way can be made again from its insertions; and how long its plan is.
-use Prim.Native.Nat.{ℕ, _+_, _*_, _^_, _≤_, _<_}
+use Prim.Native.Nat.{ℕ, _^_, _≤_, _<_}
 use native.Mathlib.Omega.{arith}
-use mathlib.Core.Path.{_≡_, refl, sym, ap, _∙_}
+use mathlib.Core.Path.{_≡_, _∙_}
 use mathlib.Core.List.{List, [], _∷_, _++_, map}
 use lib.ListN.{length, getD, take, length-take}
-use lib.Seq.{getD-take, length-take-le}
+use lib.Seq.{getD-take}
 use lib.Ieee.{Float}
-use Rattle.lists.specs.Base.{range, sum}
+use Rattle.lists.specs.Base.{sum}
 use Rattle.lists.proofs.Perm.{All, perm-sym, all-left, all-perm, all-map}
 use Rattle.lists.proofs.Sums.{length-map}
+use Rattle.lists.proofs.Every.{all-get}
+use Rattle.lists.proofs.Counts.{range-below}
 use Rattle.model.specs.declared.LayoutKind.{LayoutKind}
-use Rattle.model.specs.Types.{stockArea}
 use Rattle.model.specs.Sheet.{GuillotineSheet, placedArea}
-use Rattle.model.specs.Fitness.{usedStockArea}
 use Rattle.model.specs.Expand.{ProblemInstance}
 use Rattle.model.specs.Plan.{planWords}
 use Rattle.trust.proofs.Ranges.{Ranged}
@@ -20,14 +20,12 @@ use Rattle.trust.proofs.Bounded.{placed-most}
 use Rattle.trust.proofs.CandidateSize.{candidate-counts}
 use Rattle.trust.proofs.Proper.{SheetProper}
 use Rattle.trust.proofs.PlanSize.{counted, plan-most}
-use Rattle.free_rects.proofs.Arrays.{all-get}
 use Rattle.fitness.specs.Areas.{Inside}
 use Rattle.fitness.proofs.Sheets.{boardArea, inside-areas, usedStockArea-areas}
 use Rattle.candidate.specs.declared.Candidate.{Candidate as Words}
 use Rattle.candidate.specs.Entries.{cutOf}
 use Rattle.candidate.specs.Stands.{Stands, binIn, sheetBoards, placedWords, unusedNumbers, candidateIn}
-use Rattle.candidate.proofs.Lists.{range-below}
-use Rattle.candidate.proofs.Standing.{boards-below, length-all-boards, length-sheets, few-boards, few-placed, RebuiltOn}
+use Rattle.candidate.proofs.Standing.{boards-below, length-all-boards, length-sheets, few-placed, RebuiltOn}
 use Rattle.sheet_plan.specs.Replaying.{Rebuildable}
 
 module _ (inst : ProblemInstance) (r : Ranged inst) (k : Words) (st : Stands inst [] k) where

@@ -3,11 +3,11 @@ use Prim.Native.Nat.{ℕ, _+_, _-_, _≤_}
 use native.Mathlib.Nat.{zero-add}
 use native.Mathlib.Omega.{arith}
 use mathlib.Core.Path.{_≡_, sym, ap, ap₂, _∙_}
-use mathlib.Core.List.{List, [], _++_, append-assoc}
-use lib.ListN.{length, take, drop, length-append, length-take}
+use mathlib.Core.List.{List, _++_, append-assoc}
+use lib.ListN.{length, take, drop, length-append}
 use lib.Seq.{take-take, take-append-le, drop-append-le, take-append-add, drop-append-add, drop-drop, length-take-le}
-use Rattle.guide.specs.Lists.{patch}
-use Rattle.guide.proofs.Lists.{drop-take-add}
+use Rattle.lists.specs.Parts.{patch}
+use Rattle.lists.proofs.Parts.{drop-take-add}
 
 module _ {A : Type 0} (l : List A) (a c : ℕ) (b d : List A) (gap : c + length d ≤ a) (fits : a + length b ≤ length l) where
   abbrev front : List A

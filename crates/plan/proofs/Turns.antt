@@ -1,26 +1,26 @@
 -- The sheets of a candidate, one after the other.
-use Prim.Native.Nat.{ℕ, zero, suc, _+_, _-_, _*_, _/_, _%_, _^_, _≤_, _<_}
+use Prim.Native.Nat.{ℕ, _+_, _-_, _*_, _/_, _%_, _^_, _≤_, _<_}
 use native.Mathlib.Numerals.{add-one}
 use native.Mathlib.Omega.{arith}
-use mathlib.Core.Path.{_≡_, refl, sym, ap, _∙_, subst}
+use mathlib.Core.Path.{_≡_, sym, ap, _∙_, subst}
 use mathlib.Core.List.{List, [], _∷_, _++_, map}
 use mathlib.Core.Option.{Option·getD}
 use lib.ListN.{length, getD, set, take, drop, length-append, take-append-drop}
 use lib.Seq.{length-take-le, take-length, getD-take}
 use lib.Ieee.{Float, binary64, toBits}
 use Rattle.lists.specs.Base.{sum, concatMap}
+use Rattle.lists.specs.Parts.{patch}
 use Rattle.lists.proofs.Sums.{map-append}
+use Rattle.lists.proofs.Maps.{concatMap-append, map-next}
 use Rattle.model.specs.declared.LayoutKind.{LayoutKind}
 use Rattle.model.specs.Sheet.{GuillotineSheet, placedArea}
 use Rattle.model.specs.Fitness.{fitness, positiveZero, one}
 use Rattle.model.specs.Expand.{ProblemInstance}
 use Rattle.model.specs.Plan.{sheetWords}
-use Rattle.trust.proofs.Candidate.{concatMap-append}
 use Rattle.trust.proofs.Ranges.{Ranged}
 use Rattle.trust.proofs.PlanSize.{bodyWords, plan-length}
 use Rattle.fitness.specs.Areas.{fitnessOf, Inside}
 use Rattle.fitness.proofs.Sheets.{boardArea}
-use Rattle.guide.specs.Lists.{patch}
 use Rattle.candidate.specs.declared.Candidate.{Candidate as Words}
 use Rattle.candidate.specs.Stands.{Stands, binIn, sheetBoards, placedWords, candidateIn}
 use Rattle.candidate.proofs.Standing.{length-sheets}
@@ -31,11 +31,6 @@ use Rattle.plan.specs.Sheets.{Plans, candidatePlan, bodiesOf, WritesFrom
 use Rattle.plan.proofs.Rebuilding.{bins-length, plan-fits, inside, areas-most}
 use Rattle.plan.proofs.Entries.{bodies-more, writes-more}
 use Rattle.plan.proofs.Whole.{noted-fitness, written}
-
-map-next : {A : Type 0} (f : ℕ → A) (l : List ℕ) (j : ℕ) → j < length l → take (suc j) (map f l) ≡ take j (map f l) ++ (f (getD l j 0) ∷ [])
-map-next f [] j h = absurd (omega arith)
-map-next f (x ∷ l) zero h = refl
-map-next {A} f (x ∷ l) (suc j) h = ap {B = List A} (λ r. f x ∷ r) (map-next f l j (omega arith))
 
 -- the first bodies are no longer than all
 bodies-first : (j : ℕ) (sheets : List GuillotineSheet) → length (bodiesOf (take j sheets)) ≤ length (bodiesOf sheets)

@@ -7,21 +7,20 @@ use mathlib.Core.Option.{Option·getD}
 use lib.ListN.{length, take, length-append}
 use lib.Ieee.{Float, binary64, toBits}
 use Rattle.lists.specs.Base.{concatMap}
+use Rattle.lists.specs.Parts.{patch}
 use Rattle.lists.proofs.Sums.{length-map}
+use Rattle.lists.proofs.Parts.{patch-append, patch-front}
 use Rattle.model.specs.declared.LayoutKind.{LayoutKind}
 use Rattle.model.specs.Types.{layoutCode}
 use Rattle.model.specs.Sheet.{GuillotineSheet}
 use Rattle.model.specs.Fitness.{fitness, positiveZero, one}
 use Rattle.model.specs.Plan.{sheetWords, contentsFrom, planWords}
 use Rattle.trust.proofs.PlanSize.{bodyWords, plan-length}
-use Rattle.guide.specs.Lists.{patch}
-use Rattle.guide.proofs.Lists.{patch-append}
+use Rattle.trust.proofs.RoundTrip.{contents-length}
 use Rattle.fitness.specs.Areas.{fitnessOf}
 use Rattle.fitness.proofs.Sheets.{fitness-areas}
-use Rattle.sheet_plan.proofs.Patches.{patch-front}
 use Rattle.plan.specs.Sheets.{Plans, bodiesOf, WritesFrom}
 use Rattle.plan.proofs.Swaps.{patch-first}
-use Rattle.plan.proofs.Entries.{contents-length}
 
 -- ---- fitness by the areas noted
 

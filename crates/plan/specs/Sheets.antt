@@ -1,17 +1,17 @@
 -- What the writer leaves of the lent memory.
-use Prim.Native.Nat.{ℕ, _+_, _*_, _≤_}
+use Prim.Native.Nat.{ℕ, _+_, _*_}
 use mathlib.Core.Path.{_≡_}
 use mathlib.Core.List.{List, _++_, map}
 use mathlib.Core.Option.{Option·getD}
 use lib.ListN.{length, take, drop}
 use Rattle.lists.specs.Base.{concatMap}
+use Rattle.lists.specs.Parts.{patch}
 use Rattle.model.specs.declared.LayoutKind.{LayoutKind}
 use Rattle.model.specs.Types.{stockArea}
 use Rattle.model.specs.Sheet.{GuillotineSheet, placedArea}
 use Rattle.model.specs.Fitness.{fitness, positiveZero}
 use Rattle.model.specs.Candidate.{Candidate}
 use Rattle.model.specs.Plan.{sheetWords, contentsFrom, planWords}
-use Rattle.guide.specs.Lists.{patch}
 use Rattle.plan.specs.declared.Bodies.{Bodies}
 
 -- a plan's words first, the words behind them as found; the count of the plan's

@@ -1,22 +1,22 @@
 -- The lines and rows of a plan's text, from words at places.
-use Prim.Native.Nat.{ℕ, zero, suc, _+_, _-_, _*_, _≤_, _<_}
+use Prim.Native.Nat.{ℕ, zero, suc, _+_, _*_, _<_}
 use native.Mathlib.Nat.{add-assoc, mul-suc}
 use native.Mathlib.Omega.{arith}
 use mathlib.Core.Path.{_≡_, refl, sym, ap, _∙_}
 use mathlib.Core.List.{List, [], _∷_, _++_, map, append-assoc}
-use mathlib.Core.Bool.{Bool, true, false, _&&_}
-use lib.Dec.{leb, ltb}
-use lib.ListN.{length, take, drop, getD}
+use lib.ListN.{length, take, drop}
 use lib.Seq.{getD-take, getD-drop, drop-drop}
-use Rattle.lists.specs.Base.{if_then_else_, concatMap, countFrom, range}
-use Rattle.model.specs.Plan.{sheetPart, partOf}
+use Rattle.lists.specs.Base.{concatMap, countFrom, range}
+use Rattle.lists.proofs.Maps.{concatMap-map}
+use Rattle.lists.proofs.Counts.{counted-later}
+use Rattle.model.specs.Plan.{sheetPart}
 use Rattle.trust.specs.Words.{word, rows, keyAt, rectAt, pieceIn, wasteIn, nodeIn, nodeKey, nodesStart, sheetIn, sheetsIn}
 use Rattle.append.specs.Ascii.{ascii}
 use Rattle.append.specs.Numerals.{hexOf}
 use Rattle.plan_text.specs.Text.{field, line, keyFields, firstLine, pieceLine, wasteLine, nodeLine, sheetText, sheetTexts}
 use Rattle.plan_text.specs.Rows.{fieldAt, idAt, pieceAt, wasteAt, nodeAt, rowAt, sheetAt}
 use Rattle.plan_text.specs.declared.Part.{Part}
-use borrow.Author.Tests.{eq-eqb, ne-eqb, le-leb, lt-ltb, leb-true, ltb-true}
+use borrow.Author.Tests.{eq-eqb, ne-eqb}
 
 -- a word of a row is a word of the body
 in-row : (size row i : ℕ) (body : List ℕ) → i < size → word (take size (drop row body)) i ≡ word body (row + i)
@@ -69,32 +69,6 @@ module _ (body : List ℕ) (row : ℕ) where
   free-line e f =
       simp (add-assoc, append-assoc, in-row-first 8 row body (omega arith), eight 1 (omega arith), eight 2 (omega arith), eight 3 (omega arith), eight 4 (omega arith), eight 5 (omega arith), eight 6 (omega arith), eight 7 (omega arith), ne-eqb (word body row) 0 e, ne-eqb (word body row) 1 f)
 
--- ---- the part of the plan that is one sheet's
-
-if-none : (t : Bool) (x : List ℕ) → (t ≡ true → x ≡ []) → (if t then x else []) ≡ []
-if-none true x h = h refl
-if-none false x h = refl
-
-both : (a b : Bool) → (a && b) ≡ true → (a ≡ true) × (b ≡ true)
-both true b e = (refl, e)
-both false b e = let z : _≡_ {A = ℕ} 0 1 = cc in absurd (omega arith)
-
-module _ (p : List ℕ) (k : ℕ) where
-  pub sheet-none : (4 ≤ length p → k < getD p 0 0 → 4 + 2 * k + 2 ≤ length p → getD p (4 + 2 * k) 0 + getD p (4 + 2 * k + 1) 0 ≤ length p → ⊥)
-      → sheetPart p k ≡ []
-  unfolding sheetPart partOf
-  sheet-none bad =
-      if-none _ _ λ t.
-      if-none (leb (getD p (4 + 2 * k) 0 + getD p (4 + 2 * k + 1) 0) (length p)) _ λ e.
-      let s = both (leb 4 (length p) && ltb k (getD p 0 0)) (leb (4 + 2 * k + 2) (length p)) t in
-      let u = both (leb 4 (length p)) (ltb k (getD p 0 0)) (s .0) in
-      absurd (bad (leb-true _ _ (u .0)) (ltb-true _ _ (u .1)) (leb-true _ _ (s .1)) (leb-true _ _ e))
-
-  pub sheet-some : 4 ≤ length p → k < getD p 0 0 → 4 + 2 * k + 2 ≤ length p → getD p (4 + 2 * k) 0 + getD p (4 + 2 * k + 1) 0 ≤ length p
-      → sheetPart p k ≡ take (getD p (4 + 2 * k + 1) 0) (drop (getD p (4 + 2 * k) 0) p)
-  unfolding sheetPart partOf
-  sheet-some a b d e = simp (le-leb _ _ a, lt-ltb _ _ b, le-leb _ _ d, le-leb _ _ e)
-
 -- ---- the first line, the rows of a body, the sheets of a plan
 
 pub first-line : (words : List ℕ) → ascii "plan" ++ (concatMap (fieldAt words 0) (range 1) ++ (ascii " fitness " ++ (hexOf (idAt words 1) ++ wordLine (ascii " layout") words 3 1))) ≡ firstLine words
@@ -104,17 +78,6 @@ first-line words = simp append-assoc
 pub field-here : (words : List ℕ) (from k w : ℕ) → w ≡ word words (from + k) → field w ≡ fieldAt words from k
 unfolding fieldAt
 field-here words from k w e = ap field e
-
-concatMap-map : {A B : Type 0} (f : B → List ℕ) (g : A → B) (xs : List A) → concatMap f (map g xs) ≡ concatMap (λ x. f (g x)) xs
-unfolding concatMap
-concatMap-map f g [] = refl
-concatMap-map f g (x ∷ xs) = ap (λ (r : List ℕ). f (g x) ++ r) (concatMap-map f g xs)
-
--- the same texts counted from one further on
-counted-later : (f g : ℕ → List ℕ) (i n : ℕ) → ((k : ℕ) → f (suc k) ≡ g k) → concatMap f (countFrom (suc i) n) ≡ concatMap g (countFrom i n)
-unfolding concatMap countFrom
-counted-later f g i zero h = refl
-counted-later f g i (suc n) h = λ j. h i j ++ counted-later f g (suc i) n h j
 
 length-rows : {A : Type 0} (read : List ℕ → A) (size n : ℕ) (words : List ℕ) → length (map read (rows size n words)) ≡ n
 unfolding rows

@@ -4,7 +4,6 @@ ghost use mathlib.Core.List.{[], _∷_, _++_};
 ghost use Prim.Native.Nat.{_+_, _*_, _^_, _≤_, _<_};
 ghost use lib.ListN.{length, getD};
 ghost use Rattle.lists.specs.Base.{concatMap, range};
-ghost use Rattle.model.specs.Plan.{sheetPart};
 ghost use Rattle.trust.specs.Words.{sheetIn};
 ghost use Rattle.append.specs.Appending.{Appended, Front};
 ghost use Rattle.plan_text.specs.Text.{field, firstLine, sheetText, sheetTexts, planText};
@@ -39,31 +38,6 @@ fn double(words: &[u32], k: usize) -> u64
     ensures { λ r. ⌜ r ≡ idAt (now (words .entry)) k ⌝ }
 {
     orders::joined(word(words, k), word(words, k + 1))
-}
-
-// One sheet's words, found through the contents; none where they are not all there.
-fn sheet_words(words: &[u32], number: u32) -> &[u32]
-    ensures { λ r. ⌜ now r ≡ sheetPart (now (words .entry)) number ⌝ }
-{
-    if words.len() < 4 {
-        return &words[..0];
-    }
-    if words[0] <= number {
-        return &words[..0];
-    }
-    let entry = 4 + 2 * (number as usize);
-    if words.len() < entry + 2 {
-        return &words[..0];
-    }
-    let start = words[entry] as usize;
-    let size = words[entry + 1] as usize;
-    if words.len() < start {
-        return &words[..0];
-    }
-    if words.len() - start < size {
-        return &words[..0];
-    }
-    &words[start..start + size]
 }
 
 // ---- fields
@@ -210,7 +184,7 @@ fn put_sheets(words: &[u32], out: &mut [u8], at: usize) -> usize
         if next == out.len() {
             return next;
         }
-        next = put_sheet(sheet_words(words, k), out, next);
+        next = put_sheet(plan::sheet_words(words, k), out, next);
         k += 1;
     }
     next

@@ -3,17 +3,19 @@ use Prim.Native.Nat.{ℕ, _+_, _*_, _≤_, _<_}
 use native.Mathlib.Omega.{arith}
 use native.Mathlib.Numerals.{add-one}
 use mathlib.Core.Path.{_≡_, refl, sym, ap, _∙_, subst}
-use mathlib.Core.List.{List, [], _∷_, _++_, map, append-nil, append-assoc, List·Memᴰ}
+use mathlib.Core.List.{List, [], _∷_, _++_, map, List·Memᴰ}
 use mathlib.Core.Option.{Option, some}
 use lib.ListN.{length, getD, take}
 use lib.Seq.{take-suc, take-all, take-at}
 use Rattle.lists.specs.Base.{_>>=_, toList, range, concatMap, sortBy}
-use Rattle.lists.proofs.Perm.{Perm, perm-sym, All, all-map, all-perm, map-perm, length-perm, sortBy-perm}
+use Rattle.lists.proofs.Perm.{Perm, perm-sym, All, all-map, all-perm, length-perm, sortBy-perm}
 use Rattle.lists.proofs.Sums.{length-countFrom}
+use Rattle.lists.proofs.Counts.{range-below}
+use Rattle.lists.proofs.Every.{get-mem, map-all}
+use Rattle.lists.proofs.Maps.{map-same, map-map, concatMap-snoc}
 use Rattle.model.specs.declared.BaselineGuillotineHeuristic.{BaselineGuillotineHeuristic}
 use Rattle.model.specs.declared.CandidateSeed.{CandidateSeed}
 use Rattle.model.specs.declared.CutInstance.{CutInstance}
-use Rattle.model.specs.declared.InstanceKey.{InstanceKey}
 use Rattle.model.specs.Types.{cutKey}
 use Rattle.model.specs.Candidate.{Candidate, newCandidate, cutsForKeys, placeCuts}
 use Rattle.model.specs.Expand.{ProblemInstance, compareCut}
@@ -25,9 +27,8 @@ use Rattle.orders.specs.Rows.{cutWords, cutAt, compareAt, sortedOrder}
 use Rattle.candidate.specs.declared.Candidate.{Candidate as Words}
 use Rattle.candidate.specs.declared.Instance.{Instance}
 use Rattle.candidate.specs.Moves.{newWords}
-use Rattle.candidate.specs.Stands.{instanceIn, noCut, cutIn, candidateIn, Stands}
+use Rattle.candidate.specs.Stands.{instanceIn, noCut, cutIn, candidateIn}
 use Rattle.candidate.proofs.Instances.{cut-count, cut-in}
-use Rattle.candidate.proofs.Lists.{range-below, map-same, get-mem}
 use Rattle.candidate.proofs.Start.{new-is}
 use Rattle.placing.specs.Placing.{PlacesCuts}
 use Rattle.seeds.specs.Seeds.{placesOf, seedIn, InOrder, noSeed, IsSeed}
@@ -38,14 +39,6 @@ use Rattle.population.specs.Improved.{FromSeed}
 use Rattle.population.proofs.Passes.{pushed-holds, pushed-within}
 
 -- ---- a candidate from a seed
-
-map-map : {A B C : Type 0} (f : A → B) (g : B → C) (xs : List A) → map (λ x. g (f x)) xs ≡ map g (map f xs)
-map-map f g [] = refl
-map-map {A} {B} {C} f g (x ∷ xs) = ap {B = List C} (λ r. g (f x) ∷ r) (map-map f g xs)
-
-map-all : {A B : Type 0} (P : A → Type 0) (Q : B → Type 0) (f : A → B) → ((x : A) → P x → Q (f x)) → (xs : List A) → All P xs → All Q (map f xs)
-map-all P Q f h [] a = tt
-map-all P Q f h (x ∷ xs) a = (h x (a .0), map-all P Q f h xs (a .1))
 
 module _ (inst : ProblemInstance) (a : Admitted inst) (ranged : Ranged inst) (seed : CandidateSeed) (once : Perm (placesOf inst (seed .«cut_order»)) (range (length (inst .cuts)))) where
   abbrev places : List ℕ
@@ -58,7 +51,7 @@ module _ (inst : ProblemInstance) (a : Admitted inst) (ranged : Ranged inst) (se
       (all-perm (λ k. k < length (inst .cuts)) (perm-sym once) (range-below (length (inst .cuts))))
 
   found : cutsForKeys (inst .cuts) (map (λ k. cutKey (cutIn inst k)) places) ≡ some (map (cutIn inst) places)
-  found = ap (cutsForKeys (inst .cuts)) (map-map (cutIn inst) cutKey places) ∙ cutsForKeys-known (inst .cuts) (map (cutIn inst) places) (a .ownPanels) known
+  found = ap (cutsForKeys (inst .cuts)) (sym (map-map cutKey (cutIn inst) places)) ∙ cutsForKeys-known (inst .cuts) (map (cutIn inst) places) (a .ownPanels) known
 
   pub seed-made : (before after : List ℕ) (r : Words) → PlacesCuts inst (seed .heuristic) newWords places before after r → FromSeed inst seed r
   unfolding candidateFromSeed seedIn
@@ -72,11 +65,6 @@ module _ (inst : ProblemInstance) (a : Admitted inst) (ranged : Ranged inst) (se
       }
 
 -- ---- one after the other
-
-concat-snoc : {A B : Type 0} (f : A → List B) (xs : List A) (x : A) → concatMap f (xs ++ (x ∷ [])) ≡ concatMap f xs ++ f x
-unfolding concatMap
-concat-snoc f [] x = append-nil (f x)
-concat-snoc {A} {B} f (y ∷ xs) x = ap (λ (r : List B). f y ++ r) (concat-snoc f xs x) ∙ sym (append-assoc (f y) (concatMap f xs) (f x))
 
 module _ (rows : List BaselineGuillotineHeuristic) (inst : ProblemInstance) (n : SearchNumbers) where
   -- the candidates of the first seeds
@@ -94,7 +82,7 @@ module _ (rows : List BaselineGuillotineHeuristic) (inst : ProblemInstance) (n :
       let all : List Seed = initialSeeds rows (inst .cuts) n in
       let made : Seed → List Candidate = λ x. toList (candidateFromSeed inst x) in
       ap (λ (l : List Seed). concatMap made l) (ap (λ (m : ℕ). take m all) (add-one k) ∙ take-suc all k noSeed h)
-      ∙ concat-snoc made (take k all) (getD all k noSeed)
+      ∙ concatMap-snoc made (take k all) (getD all k noSeed)
       ∙ ap (λ (l : List Candidate). concatMap made (take k all) ++ l) (ap made (sym (s .is)) ∙ ap toList (f .is))
 
   pub firsts-all : (k : ℕ) → length (initialSeeds rows (inst .cuts) n) ≤ k → firstOnes k ≡ initialPopulation rows inst n

@@ -1,22 +1,22 @@
 -- A generation's passes over a population: each candidate improved in its slot.
 use mathlib.Core.Path.{_≡_, refl, sym, ap, _∙_, subst}
 use mathlib.Core.Logic.{inr}
-use mathlib.Core.List.{List, [], _∷_, _++_, map, List·Memᴰ}
+use mathlib.Core.List.{List, [], _∷_, _++_, map}
 use mathlib.Core.Option.{Option·getD}
 use Prim.Native.Nat.{ℕ, _+_, _*_, _≤_}
 use native.Mathlib.Omega.{arith}
 use lib.ListN.{length}
-use Rattle.lists.proofs.Perm.{All, all-map, in-all}
+use Rattle.lists.proofs.Perm.{all-map, in-all}
 use Rattle.lists.proofs.Sums.{map-append}
 use Rattle.model.specs.declared.BaselineGuillotineHeuristic.{BaselineGuillotineHeuristic}
-use Rattle.model.specs.Sheet.{GuillotineSheet, Insertion, newSheet, rebuild}
+use Rattle.model.specs.Sheet.{GuillotineSheet, newSheet, rebuild}
 use Rattle.model.specs.Candidate.{Candidate, reinsertUnusedFirstFit, compactWorstBin}
 use Rattle.model.specs.Expand.{ProblemInstance}
 use Rattle.model.specs.Search.{repairPopulation, compactPopulation}
 use Rattle.candidate.specs.declared.Candidate.{Candidate as Words}
 use Rattle.candidate.specs.Entries.{onBoard}
 use Rattle.candidate.specs.Stands.{boardIn, insertionIn, makingIn, binIn, sheetBoards, placedWords, candidateIn, Stands}
-use Rattle.placing.specs.Blocks.{blockOf, ShowsBin, Shown}
+use Rattle.placing.specs.Blocks.{ShowsBin, Shown}
 use Rattle.compaction.specs.Compact.{SameSheet, Compacted}
 use Rattle.stored.specs.Slots.{slotWords, storeIn}
 use Rattle.stored.specs.Populations.{wordsAt, candidateAt, populationIn, Holds, OnlySlots}

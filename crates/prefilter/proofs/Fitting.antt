@@ -1,24 +1,22 @@
 -- The two tests of the prefilter, from the rows of the tables to the instance that they show.
 use Prim.Native.Nat.{ℕ, _+_, _*_, _≤_, _<_, _^_}
 use native.Mathlib.Omega.{arith}
-use mathlib.Core.Path.{_≡_, refl, sym, ap, ap₂, _∙_, subst}
+use mathlib.Core.Path.{_≡_, refl, ap, ap₂, _∙_}
 use mathlib.Core.Bool.{Bool, true, false, not}
 use mathlib.Core.List.{List, [], _∷_, map}
-use mathlib.Core.Option.{Option, none, some}
+use mathlib.Core.Option.{none, some}
 use lib.Dec.{ltb}
-use lib.ListN.{length, getD, take, drop}
+use lib.ListN.{getD, drop}
 use lib.Seq.{getD-take, getD-drop}
 use borrow.Author.Tests.{lt-ltb, le-ltb}
-use Rattle.lists.specs.Base.{if_then_else_, any, all, sum, range}
+use Rattle.lists.specs.Base.{any, all, sum, range}
 use Rattle.model.specs.declared.CutInstance.{CutInstance}
 use Rattle.model.specs.Types.{stockArea, cutArea}
 use Rattle.model.specs.Fit.{cutFitsStock}
 use Rattle.model.specs.Refusal.{firstThatApplies}
 use Rattle.model.specs.Answer.{prefilter}
-use Rattle.trust.specs.Limits.{mostAreas}
-use Rattle.trust.proofs.Ranges.{Ranged}
 use Rattle.trust.proofs.CandidateSize.{stock-area-most, cut-area-most}
-use Rattle.orders.specs.Rows.{stockWords, cutWords, rowAt, stockOf, cutOf, stockAt, cutAt}
+use Rattle.orders.specs.Rows.{rowAt, stockOf, cutOf, stockAt, cutAt}
 use Rattle.candidate.specs.declared.Instance.{Instance}
 use Rattle.candidate.specs.Stands.{instanceIn, Tables}
 use Rattle.prefilter.specs.Rows.{fitsAny, rowArea}

@@ -2,12 +2,13 @@
 use Prim.Native.Nat.{ℕ, zero, suc, _+_, _*_, _/_, _%_, _≤_}
 use native.Mathlib.Omega.{arith}
 use mathlib.Core.Path.{_≡_, refl, _∙_}
-use mathlib.Core.Bool.{Bool, true, false, _&&_, false≢true}
+use mathlib.Core.Bool.{Bool, true, false, _&&_}
 use mathlib.Core.List.{List}
 use mathlib.Core.Option.{none, some, Option·some-ne-none}
 use lib.Dec.{eqb, leb}
 use lib.ListN.{length}
 use borrow.Author.Tests.{eqb-true, leb-true}
+use Rattle.lists.proofs.Booleans.{both}
 use Rattle.model.specs.declared.LayoutKind.{LayoutKind}
 use Rattle.model.specs.declared.OptimizerEffort.{OptimizerEffort}
 use Rattle.model.specs.Types.{layoutOf, effortOf}
@@ -23,10 +24,6 @@ pub record Shape (bytes : List ℕ) : Type 0 where
   pub cutsWhole : recordLength * (cutsLength bytes / recordLength) ≡ cutsLength bytes
   pub cutsFew : cutsLength bytes / recordLength ≤ 64
   pub ends : length bytes ≡ cutsStart bytes + cutsLength bytes
-
-both : (a b : Bool) → (a && b) ≡ true → (a ≡ true) × (b ≡ true)
-both true b e = (refl, e)
-both false b e = absurd (false≢true e)
 
 whole : (n : ℕ) → bodyLength n ≡ true → recordLength * (n / recordLength) ≡ n
 whole n e = let h = eqb-true (n % recordLength) 0 (both (eqb (n % recordLength) 0) (leb n (recordLength * mostRecords)) e .0) in omega arith

@@ -1,5 +1,5 @@
 -- Words of a line, by places in it.
-use Prim.Native.Nat.{ℕ, zero, suc, _+_, _-_, _*_, _≤_, _<_, min}
+use Prim.Native.Nat.{ℕ, suc, _+_, _-_, _*_, _≤_, _<_, min}
 use native.Mathlib.Numerals.{add-one}
 use native.Mathlib.Omega.{arith}
 use mathlib.Core.Path.{_≡_, refl, sym, ap, _∙_}
@@ -8,8 +8,10 @@ use mathlib.Core.List.{List, [], _∷_}
 use mathlib.Core.Option.{none, some}
 use lib.Dec.{leb, eqb}
 use lib.ListN.{length, getD, take, drop, drop-of-length-le}
-use lib.Seq.{drop-cons, drop-drop, drop-nil}
+use lib.Seq.{drop-cons, drop-drop}
 use Rattle.lists.specs.Base.{if_then_else_}
+use Rattle.lists.proofs.Booleans.{both}
+use Rattle.lists.proofs.Arrays.{drop-least}
 use Rattle.project_line.specs.declared.Stop.{Stop}
 use Rattle.project_line.specs.Words.{isBlank, stopsAt, upTo, behindSpace, firstWord, afterWord, SpanOf, sameBytes, readDigits, numberOf, codeIn}
 use borrow.Author.Tests.{eqb-true, eq-eqb, le-leb, leb-true}
@@ -18,10 +20,6 @@ use borrow.Author.Tests.{eqb-true, eq-eqb, le-leb, leb-true}
 
 differ : false ≡ true → ⊥
 differ e = let z : _≡_ {A = ℕ} 0 1 = cc in omega arith
-
-both : (a b : Bool) → (a && b) ≡ true → (a ≡ true) × (b ≡ true)
-both true b e = (refl, e)
-both false b e = absurd (differ e)
 
 other : (t : Bool) → (t ≡ true → false ≡ true) → t ≡ false
 other true h = sym (h refl)
@@ -72,11 +70,6 @@ take-upTo p (c ∷ cs) = go (p c) (take-upTo p cs)
     go : (t : Bool) → take (length (upTo p cs)) cs ≡ upTo p cs → take (length (if t then [] else c ∷ upTo p cs)) (c ∷ cs) ≡ (if t then [] else c ∷ upTo p cs)
     go true e = refl
     go false e = ap (λ (r : List ℕ). c ∷ r) e
-
-drop-least : (l : List ℕ) (at : ℕ) → drop (min at (length l)) l ≡ drop at l
-drop-least [] at = drop-nil (min at 0) ∙ sym (drop-nil at)
-drop-least (x ∷ l) zero = let e : min 0 (length (x ∷ l)) ≡ 0 = omega arith in rw e
-drop-least (x ∷ l) (suc at) = let e : min (suc at) (suc (length l)) ≡ suc (min at (length l)) = omega arith in rw e (drop-least l at)
 
 module _ (line : List ℕ) (at : ℕ) (from start end : ℕ) (f : from ≡ min at (length line))
     (s : start ≡ from + length (upTo (stopsAt Stop.WordStart) (drop from line)))

@@ -1,6 +1,6 @@
 -- What a line says. The keywords are `kerf N`, `layout guillotine|nested`, `effort fast|balanced|thorough`, `unit mm|inch|foot`,
 -- `board ID WIDTH LENGTH [x QUANTITY] [grain width|length]` and `panel ID WIDTH LENGTH [x QUANTITY] [grain width|length] [turn]`.
-use Prim.Native.Nat.{ℕ, _+_, _-_, _^_}
+use Prim.Native.Nat.{ℕ, _-_, _^_}
 use mathlib.Core.List.{List, [], _∷_}
 use mathlib.Core.Option.{Option, none, some}
 use lib.ListN.{drop}
@@ -12,7 +12,6 @@ use Rattle.project_line.specs.declared.Reason.{Reason}
 use Rattle.project_line.specs.declared.Setting.{Setting}
 use Rattle.project_line.specs.declared.Kind.{Kind}
 use Rattle.project_line.specs.declared.Keyword.{Keyword}
-use Rattle.project_line.specs.declared.Row.{Row}
 use Rattle.project_line.specs.declared.Line.{Line}
 use Rattle.project_line.specs.Words.{firstWord, afterWord, sameBytes, numberOf, codeIn}
 

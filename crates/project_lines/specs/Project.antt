@@ -1,7 +1,6 @@
 -- What a text says: its lines in order, each of them understood, make a project file; the first that is not is named. A later setting of a
 -- kind takes the place of an earlier one. Whether the planner takes the project is the planner's to say.
 use Prim.Native.Nat.{ℕ, _+_, _*_}
-use mathlib.Core.Bool.{Bool}
 use mathlib.Core.List.{List, [], _∷_, _++_}
 use mathlib.Core.Option.{Option, none, some}
 use lib.Dec.{eqb, ltb}

@@ -4,12 +4,13 @@ use native.Mathlib.Omega.{arith}
 use native.Mathlib.Numerals.{add-one}
 use mathlib.Core.Path.{_≡_, refl, sym, ap, ap₂, _∙_, subst}
 use mathlib.Core.Logic.{inl}
-use mathlib.Core.Bool.{true, false, false≢true, true≢false}
+use mathlib.Core.Bool.{true, false}
 use mathlib.Core.List.{List, [], _∷_, _++_, append-nil, append-assoc}
-use mathlib.Core.Option.{Option, none, some}
+use mathlib.Core.Option.{Option}
 use lib.ListN.{length, getD, drop, length-drop}
 use lib.Seq.{drop-cons}
-use Rattle.lists.specs.Base.{isSome, toList}
+use Rattle.lists.specs.Base.{toList}
+use Rattle.lists.proofs.Options.{none-by}
 use Rattle.model.specs.declared.BaselineGuillotineHeuristic.{BaselineGuillotineHeuristic}
 use Rattle.model.specs.Candidate.{Candidate, newCandidate}
 use Rattle.model.specs.Expand.{ProblemInstance}
@@ -26,14 +27,10 @@ use Rattle.search.specs.Regions.{PushesChild}
 
 -- ---- one child
 
-none-of : {A : Type 0} (o : Option A) → false ≡ isSome o → o ≡ none
-none-of none e = refl
-none-of (some a) e = absurd (false≢true e)
-
 pub push-none : (base size : ℕ) (child : Child) (ws : List ℕ) → child .found ≡ false → PushesChild base size child ws ws size
 push-none base size child ws f =
     record {
-      holds = λ inst o cs few k h. subst (Holds inst ws base size) (sym (ap (λ (p : Option Candidate). cs ++ toList p) (none-of o (sym f ∙ k .found)) ∙ append-nil cs)) h;
+      holds = λ inst o cs few k h. subst (Holds inst ws base size) (sym (ap (λ (p : Option Candidate). cs ++ toList p) (none-by o (sym (sym f ∙ k .found))) ∙ append-nil cs)) h;
       only = λ inst o few k. only-none (base + size) (base + size + 1) ws;
       least = omega arith;
       most = omega arith;

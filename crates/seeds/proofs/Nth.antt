@@ -1,22 +1,23 @@
 -- The seeds one by one: those of the sorted order, one for each row that is used, and then the shuffles.
-use Prim.Native.Nat.{ℕ, zero, suc, _+_, _-_, _≤_, _<_}
-use native.Mathlib.Nat.{not-suc-le-zero, le-of-suc-le-suc}
+use Prim.Native.Nat.{ℕ, _+_, _-_, _≤_, _<_}
+use native.Mathlib.Nat.{not-suc-le-zero}
 use native.Mathlib.Omega.{arith}
-use mathlib.Core.Path.{_≡_, refl, sym, ap, ap₂, _∙_, subst}
+use mathlib.Core.Path.{_≡_, refl, sym, ap, _∙_, subst}
 use mathlib.Core.Bool.{Bool, true, false}
 use mathlib.Core.List.{List, [], _∷_, _++_, map}
-use lib.ListN.{length, getD, take, drop, length-append, length-take, List·getD-append}
-use lib.Seq.{take-at, take-length, length-take-le, getD-take, getD-append-add}
-use Rattle.lists.specs.Base.{if_then_else_, countFrom, range, sortBy}
+use lib.ListN.{length, getD, take, drop, length-append, List·getD-append}
+use lib.Seq.{take-at, length-take-le, getD-take, getD-append-add}
+use Rattle.lists.specs.Base.{if_then_else_, range}
 use Rattle.lists.proofs.Perm.{Perm, also, length-perm}
 use Rattle.lists.proofs.Sums.{length-map, length-countFrom}
+use Rattle.lists.proofs.Maps.{getD-map, map-map}
+use Rattle.lists.proofs.Counts.{getD-count}
 use Rattle.model.specs.declared.BaselineGuillotineHeuristic.{BaselineGuillotineHeuristic}
 use Rattle.model.specs.declared.CutInstance.{CutInstance}
 use Rattle.model.specs.declared.InstanceKey.{InstanceKey}
-use Rattle.model.specs.declared.CandidateSeed.{CandidateSeed}
 use Rattle.model.specs.Types.{cutKey}
 use Rattle.model.specs.TinyPrng.{wrap}
-use Rattle.model.specs.Expand.{ProblemInstance, compareCut, sortedCutOrder, shuffleCutOrder}
+use Rattle.model.specs.Expand.{ProblemInstance, sortedCutOrder, shuffleCutOrder}
 use Rattle.model.specs.Search.{SearchNumbers as Numbers, Seed, heuristic, defaultHeuristic, otherHeuristics, sortedSeed, variantSeeds, shuffledSeed, initialSeeds}
 use Rattle.generator.specs.Shuffle.{shuffled}
 use Rattle.generator.proofs.Shuffle.{shuffled-perm, shuffled-keys}
@@ -25,27 +26,6 @@ use Rattle.seeds.specs.declared.SearchNumbers.{SearchNumbers}
 use Rattle.seeds.specs.declared.HeuristicRows.{HeuristicRows}
 use Rattle.seeds.specs.Rows.{numbersOf, rowsOf, HasRows, sortedSeeds}
 use Rattle.seeds.specs.Seeds.{placesOf, seedIn, InOrder, noSeed, IsSeed}
-
--- ---- lists
-
--- owning an array of structs says the length of the list of their parts; `search counted` makes of it the length of the list
-pub counted : (X Y : Type 0) (f : X → Y) (l : List X) (n : ℕ) → length (map f l) ≡ n → length l ≡ n
-counted X Y f l n e = sym (length-map f l) ∙ e
-
-getD-map : {A B : Type 0} (f : A → B) (xs : List A) (i : ℕ) (d : A) (e : B) → i < length xs → getD (map f xs) i e ≡ f (getD xs i d)
-getD-map f [] i d e h = absurd (not-suc-le-zero h)
-getD-map f (x ∷ xs) zero d e h = refl
-getD-map f (x ∷ xs) (suc i) d e h = getD-map f xs i d e (le-of-suc-le-suc h)
-
-getD-count : (i n k : ℕ) → k < n → getD (countFrom i n) k 0 ≡ i + k
-unfolding countFrom
-getD-count i zero k h = absurd (not-suc-le-zero h)
-getD-count i (suc n) zero h = omega arith
-getD-count i (suc n) (suc k) h = let e : suc i + k ≡ i + suc k = omega arith in getD-count (suc i) n k (le-of-suc-le-suc h) ∙ e
-
-map-map : {A B C : Type 0} (f : A → B) (g : B → C) (xs : List A) → map (λ x. g (f x)) xs ≡ map g (map f xs)
-map-map f g [] = refl
-map-map f g (x ∷ xs) = ap {B = List _} (λ r. g (f x) ∷ r) (map-map f g xs)
 
 -- ---- the seeds in two parts
 
@@ -133,7 +113,7 @@ module _ (r : HeuristicRows) (n : SearchNumbers) (h : HasRows r) (size : length 
         let sorted : List Seed = map (sortedSeed cuts) (used rows (n .variants)) in
         ap (λ (s : List Seed). getD s k noSeed) (two-parts rows cuts m (omega (arith, rows-length r h size, h .one)))
         ∙ List·getD-append sorted _ noSeed k (omega (arith, length-map (sortedSeed cuts) (used rows (n .variants)), used-length))
-        ∙ getD-map (sortedSeed cuts) (used rows (n .variants)) k d noSeed (omega (arith, used-length))
+        ∙ getD-map (sortedSeed cuts) (used rows (n .variants)) k noSeed d (omega (arith, used-length))
         ∙ ap (sortedSeed cuts) (used-at k d l)
 
     -- a shuffle
@@ -150,7 +130,7 @@ module _ (r : HeuristicRows) (n : SearchNumbers) (h : HasRows r) (size : length 
         ap (λ (s : List Seed). getD s k noSeed) (two-parts rows cuts m (omega (arith, rows-length r h size, h .one)))
         ∙ ap (λ (i : ℕ). getD (sorted ++ map shuffle (range (n .shuffles))) i noSeed) at
         ∙ getD-append-add sorted (map shuffle (range (n .shuffles))) j noSeed
-        ∙ getD-map shuffle (range (n .shuffles)) j 0 noSeed (omega (arith, length-countFrom 0 (n .shuffles)))
+        ∙ getD-map shuffle (range (n .shuffles)) j noSeed 0 (omega (arith, length-countFrom 0 (n .shuffles)))
         ∙ ap shuffle number
         ∙ ap (λ (row : BaselineGuillotineHeuristic). shuffledSeed cuts row m j) (first-row r h size d)
 
@@ -159,7 +139,7 @@ module _ (r : HeuristicRows) (n : SearchNumbers) (h : HasRows r) (size : length 
   module _ (inst : ProblemInstance) (sorted : List ℕ) (o : InOrder inst sorted) (k : ℕ) (d : BaselineGuillotineHeuristic) where
     keys : map (λ p. cutKey (cutIn inst p)) (placesOf inst sorted) ≡ sortedCutOrder (inst .cuts)
     unfolding sortedCutOrder
-    keys = map-map (cutIn inst) cutKey (placesOf inst sorted) ∙ ap (map cutKey) (o .sorted)
+    keys = sym (map-map cutKey (cutIn inst) (placesOf inst sorted)) ∙ ap (map cutKey) (o .sorted)
 
     pub is-sorted : k < sortedSeeds r n → IsSeed rows inst (numbersOf n) k (record { «cut_order» = sorted; heuristic = getD (r .rows) k d })
     unfolding seedIn sortedSeed

@@ -1,32 +1,29 @@
 -- A sheet's body, put together of its parts.
-use Prim.Native.Nat.{ℕ, _+_, _*_, _/_, _^_, _≤_, _<_}
+use Prim.Native.Nat.{ℕ, _+_, _*_, _/_, _≤_, _<_}
 use native.Mathlib.Nat.{mul-pos}
 use native.Mathlib.Omega.{arith}
 use mathlib.Core.Path.{_≡_, refl, sym, ap, _∙_}
-use mathlib.Core.List.{List, [], _∷_, _++_, append-assoc}
+use mathlib.Core.List.{List, _++_}
 use lib.ListN.{length, getD, take, length-append}
-use Rattle.lists.specs.Base.{sum, concatMap}
+use Rattle.lists.specs.Base.{concatMap}
+use Rattle.lists.specs.Parts.{patch}
+use Rattle.lists.proofs.Parts.{then-patch, patch-front}
 use Rattle.model.specs.declared.StockInstance.{StockInstance}
 use Rattle.model.specs.Types.{stockArea}
 use Rattle.model.specs.Refusal.{mostSide}
-use Rattle.model.specs.Sheet.{GuillotineSheet, placedArea}
-use Rattle.model.specs.Plan.{words64, rectWords, pieceWords, nodesOf, nodeWords, useOf, sawOf, sheetWords}
+use Rattle.model.specs.Sheet.{GuillotineSheet}
+use Rattle.model.specs.Plan.{rectWords, pieceWords, nodesOf, nodeWords, useOf, sawOf, sheetWords}
 use Rattle.trust.specs.Limits.{mostArea}
 use Rattle.trust.proofs.Bounded.{Bounded, placed-most, board-area-most}
-use Rattle.trust.proofs.RoundTrip.{sheet-length}
+use Rattle.trust.proofs.RoundTrip.{sheet-length, waste-size, pieces-size}
 use Rattle.trust.proofs.PlanRange.{saw-range}
 use Rattle.guillotine.specs.SheetWords.{rectsIn, Block}
-use Rattle.guillotine.proofs.Words.{length-rects, length-words}
-use Rattle.guide.specs.Lists.{patch}
-use Rattle.guide.specs.Words.{Holds, Sawn, Sawable}
-use Rattle.guide.proofs.Lists.{then-patch}
+use Rattle.guillotine.proofs.Words.{length-rects}
+use Rattle.guide.specs.Words.{Sawn, Sawable}
 use Rattle.guide.proofs.Guides.{holds-fits}
 use Rattle.sheet_plan.specs.declared.Progress.{Progress}
-use Rattle.sheet_plan.specs.declared.Body.{Body}
 use Rattle.sheet_plan.specs.Rows.{headWords}
 use Rattle.sheet_plan.specs.Replaying.{Replayed, WritesSheet, Finishable}
-use Rattle.sheet_plan.proofs.Patches.{patch-front}
-use Rattle.sheet_plan.proofs.Steps.{pieces-length}
 
 -- ---- the words by their parts
 
@@ -94,11 +91,11 @@ module _ (kerf : ℕ) (s : GuillotineSheet) (rects guide : List ℕ) (p : Progre
 
       behind-pieces : plan₁ ≡ patch before (at + 10) (pieces s ++ waste s)
       behind-pieces =
-          then-patch before plan plan₁ (at + 10) (pieces s) (waste s) (at + 10 + 9 * p .pieces) first wasted (omega (arith, pieces-length (s .placedPieces), state .pieces)) (omega (arith, pieces-length (s .placedPieces), state .pieces, body-length))
+          then-patch before plan plan₁ (at + 10) (pieces s) (waste s) (at + 10 + 9 * p .pieces) first wasted (omega (arith, pieces-size (s .placedPieces), state .pieces)) (omega (arith, pieces-size (s .placedPieces), state .pieces, body-length))
 
       parts-length : length (pieces s ++ waste s) ≡ 9 * p .pieces + 4 * count
       parts-length =
-          omega (arith, length-append (pieces s) (waste s), pieces-length (s .placedPieces), length-words (s .freeRects), ap length (state .free .rects), counted, state .pieces)
+          omega (arith, length-append (pieces s) (waste s), pieces-size (s .placedPieces), waste-size (s .freeRects), ap length (state .free .rects), counted, state .pieces)
 
       behind-waste : plan₂ ≡ patch before (at + 10) ((pieces s ++ waste s) ++ nodes s)
       behind-waste =

@@ -1,19 +1,18 @@
 -- A piece's and a head's words, written in two parts of four and what is left.
-use Prim.Native.Nat.{ℕ, _+_, _*_, _/_, _%_, _^_, _≤_}
+use Prim.Native.Nat.{ℕ, _+_, _/_, _%_, _^_, _≤_}
 use native.Mathlib.Omega.{arith}
 use mathlib.Core.Path.{_≡_, refl, ap, _∙_}
-use mathlib.Core.List.{List, [], _∷_, _++_}
+use mathlib.Core.List.{List, [], _∷_}
 use lib.ListN.{length, set}
+use Rattle.lists.specs.Parts.{patch}
+use Rattle.lists.proofs.Parts.{length-patch, then-patch, set-patch}
 use Rattle.model.specs.declared.BaselineGuillotineHeuristic.{BaselineGuillotineHeuristic}
 use Rattle.model.specs.declared.StockInstance.{StockInstance}
 use Rattle.model.specs.declared.CutInstance.{CutInstance}
 use Rattle.model.specs.declared.FitResult.{FitResult}
 use Rattle.model.specs.Types.{patternCode, flagCode}
 use Rattle.model.specs.Plan.{pieceWords}
-use Rattle.guide.specs.Lists.{patch}
-use Rattle.guide.proofs.Lists.{length-patch, then-patch}
 use Rattle.sheet_plan.specs.Rows.{piece, headWords}
-use Rattle.sheet_plan.proofs.Patches.{store}
 
 module _ (l l₁ l₂ : List ℕ) (at a b c d e f g h : ℕ)
     (first : l₁ ≡ patch l at (a ∷ b ∷ c ∷ d ∷ [])) (second : l₂ ≡ patch l₁ (at + 4) (e ∷ f ∷ g ∷ h ∷ [])) where
@@ -24,7 +23,7 @@ module _ (l l₁ l₂ : List ℕ) (at a b c d e f g h : ℕ)
   nine i room =
       let row : List ℕ = a ∷ b ∷ c ∷ d ∷ e ∷ f ∷ g ∷ h ∷ [] in
       let size : length l₂ ≡ length l = ap length (eight (omega arith)) ∙ length-patch l at row (omega arith) in
-      then-patch l l₂ (set l₂ (at + 8) i) at row (i ∷ []) (at + 8) (eight (omega arith)) (store l₂ (at + 8) i (omega arith)) refl (omega arith)
+      then-patch l l₂ (set l₂ (at + 8) i) at row (i ∷ []) (at + 8) (eight (omega arith)) (set-patch l₂ (at + 8) i (omega arith)) refl (omega arith)
 
   pub ten : (i j : ℕ) (l₃ : List ℕ) → at + 10 ≤ length l → l₃ ≡ patch l₂ (at + 8) (i ∷ j ∷ []) → l₃ ≡ patch l at (a ∷ b ∷ c ∷ d ∷ e ∷ f ∷ g ∷ h ∷ i ∷ j ∷ [])
   ten i j l₃ room third = then-patch l l₂ l₃ at (a ∷ b ∷ c ∷ d ∷ e ∷ f ∷ g ∷ h ∷ []) (i ∷ j ∷ []) (at + 8) (eight (omega arith)) third refl (omega arith)

@@ -1,5 +1,4 @@
 -- Laws that belong to no one function.
-pub mod Patches
 pub mod Waste
 pub mod Joined
 pub mod Making

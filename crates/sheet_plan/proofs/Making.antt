@@ -1,26 +1,26 @@
 -- The making of a sheet among a candidate's insertions: its beginnings make the sheet's earlier states, each within its ranges.
-use Prim.Native.Nat.{ℕ, suc, _+_, _*_, _≤_, _<_}
-use native.Mathlib.Nat.{le-refl}
+use Prim.Native.Nat.{ℕ, _+_, _*_, _≤_, _<_}
 use native.Mathlib.Numerals.{add-one}
 use native.Mathlib.Omega.{arith}
-use mathlib.Core.Path.{_≡_, refl, sym, ap, _∙_, subst}
-use mathlib.Core.Bool.{Bool, true, false}
+use mathlib.Core.Path.{_≡_, refl, sym, ap, _∙_}
 use mathlib.Core.List.{List, [], _∷_, _++_, map}
-use mathlib.Core.Option.{Option, none, some, Option·some-injective, Option·none-ne-some}
+use mathlib.Core.Option.{Option, some}
 use lib.Dec.{eqb}
 use lib.ListN.{length, getD, take, drop, length-append, length-take, take-append-drop}
 use lib.Seq.{take-suc, take-length, take-append-le}
-use Rattle.lists.specs.Base.{if_then_else_, _>>=_, retain, foldOption}
+use Rattle.lists.specs.Base.{_>>=_, retain, foldOption}
 use Rattle.lists.proofs.Perm.{All, all-left}
 use Rattle.lists.proofs.Sums.{length-map, map-append}
+use Rattle.lists.proofs.Every.{all-get, all-any}
+use Rattle.lists.proofs.Options.{through, fold-append, fold-keeps}
+use Rattle.lists.proofs.Kept.{retain-append, length-retain, retain-some}
 use Rattle.model.specs.declared.StockInstance.{StockInstance}
 use Rattle.model.specs.Sheet.{GuillotineSheet, PlacedPiece, Insertion, Place, newSheet, insertAt, tryInsert, rebuild, makingOf}
 use Rattle.model.specs.Expand.{ProblemInstance}
 use Rattle.trust.proofs.Placing.{at-place}
-use Rattle.trust.proofs.Sheet.{tryInsert-inserted}
+use Rattle.trust.proofs.Sheet.{tryInsert-inserted, all-inserted}
 use Rattle.trust.proofs.Ranges.{BoardRange, PanelRange, Ranged}
 use Rattle.trust.proofs.Bounded.{Bounded, new-bounded, tryInsert-bounded}
-use Rattle.free_rects.proofs.Arrays.{all-get}
 use Rattle.orders.specs.Rows.{stockWords, stockAt}
 use Rattle.candidate.specs.declared.Instance.{Instance}
 use Rattle.candidate.specs.Entries.{boardOf, cutOf, onBoard}
@@ -29,83 +29,15 @@ use Rattle.candidate.proofs.Instances.{stock-count, board-in}
 use Rattle.candidate.proofs.Makings.{on-none, rebuilt-bin, bin-bare, bin-other, rebuilt-more}
 use Rattle.sheet_plan.specs.Replaying.{Rebuildable}
 
--- ---- folds that may stop
-
-module _ {A B : Type 0} (f : B → A → Option B) where
-  pub record Parted (b : B) (xs ys : List A) (d : B) : Type 0 where
-    pub middle : B
-    pub first : foldOption f b xs ≡ some middle
-    pub second : foldOption f middle ys ≡ some d
-
-  fold-parts : (b : B) (xs ys : List A) (d : B) → foldOption f b (xs ++ ys) ≡ some d → Parted b xs ys d
-  unfolding foldOption
-  fold-parts b [] ys d e = record { middle = b; first = refl; second = e }
-  fold-parts b (x ∷ xs) ys d e = go (f b x) refl e (λ c. fold-parts c xs ys d)
-    where
-      go : (o : Option B) → f b x ≡ o → (o >>= λ c. foldOption f c (xs ++ ys)) ≡ some d → ((c : B) → foldOption f c (xs ++ ys) ≡ some d → Parted c xs ys d)
-          → Parted b (x ∷ xs) ys d
-      go none g k later = absurd (Option·none-ne-some d k)
-      go (some c) g k later = let p = later c k in record { middle = p .middle; first = rw g (p .first); second = p .second }
-
-  -- what each step keeps
-  fold-keeps : (P : B → Type 0) (Q : A → Type 0) → ((x : A) (b c : B) → Q x → f b x ≡ some c → P b → P c) → (xs : List A) → All Q xs → (b d : B) → P b → foldOption f b xs ≡ some d → P d
-  unfolding foldOption
-  fold-keeps P Q keeps [] q b d h e = subst P (Option·some-injective _ _ e) h
-  fold-keeps P Q keeps (x ∷ xs) q b d h e = go (f b x) refl e (λ c. fold-keeps P Q keeps xs (q .1) c d)
-    where
-      go : (o : Option B) → f b x ≡ o → (o >>= λ c. foldOption f c xs) ≡ some d → ((c : B) → P c → foldOption f c xs ≡ some d → P d) → P d
-      go none g k later = absurd (Option·none-ne-some d k)
-      go (some c) g k later = later c (keeps x b c (q .0) g h) k
-
 -- each insertion is a piece more
-one-more : (kerf : ℕ) (s : GuillotineSheet) (i : Insertion) (t : GuillotineSheet) → tryInsert kerf s i ≡ some t → length (t .placedPieces) ≡ length (s .placedPieces) + 1
-unfolding makingOf
-one-more kerf s i t e =
-    let by : PlacedPiece → Insertion = λ p. p .by in
-    omega (arith, ap length (tryInsert-inserted kerf s i t e .grown), length-append (map by (s .placedPieces)) (i ∷ []), length-map by (s .placedPieces), length-map by (t .placedPieces))
-
 fold-count : (kerf : ℕ) (making : List Insertion) (s t : GuillotineSheet) → foldOption (tryInsert kerf) s making ≡ some t
     → length (t .placedPieces) ≡ length (s .placedPieces) + length making
-unfolding foldOption
-fold-count kerf [] s t e = omega (arith, ap (λ (u : GuillotineSheet). length (u .placedPieces)) (Option·some-injective _ _ e))
-fold-count kerf (i ∷ making) s t e = go (tryInsert kerf s i) refl e (λ u. fold-count kerf making u t)
-  where
-    go : (o : Option GuillotineSheet) → tryInsert kerf s i ≡ o → (o >>= λ u. foldOption (tryInsert kerf) u making) ≡ some t
-        → ((u : GuillotineSheet) → foldOption (tryInsert kerf) u making ≡ some t → length (t .placedPieces) ≡ length (u .placedPieces) + length making)
-        → length (t .placedPieces) ≡ length (s .placedPieces) + suc (length making)
-    go none g k later = absurd (Option·none-ne-some t k)
-    go (some u) g k later = omega (arith, later u k, one-more kerf s i u g)
+unfolding makingOf
+fold-count kerf making s t e =
+    let by : PlacedPiece → Insertion = λ p. p .by in
+    omega (arith, ap length (all-inserted kerf s t making e .grown), length-append (map by (s .placedPieces)) making, length-map by (s .placedPieces), length-map by (t .placedPieces))
 
 -- ---- a board's insertions
-
-module _ {A : Type 0} (p : A → Bool) where
-  retain-append : (xs ys : List A) → retain p (xs ++ ys) ≡ retain p xs ++ retain p ys
-  unfolding retain
-  retain-append [] ys = refl
-  retain-append (x ∷ xs) ys = go (p x) (retain-append xs ys)
-    where
-      go : (b : Bool) → retain p (xs ++ ys) ≡ retain p xs ++ retain p ys
-          → (if b then x ∷ retain p (xs ++ ys) else retain p (xs ++ ys)) ≡ (if b then x ∷ retain p xs else retain p xs) ++ retain p ys
-      go true e = ap {B = List A} (λ r. x ∷ r) e
-      go false e = e
-
-  retain-most : (xs : List A) → length (retain p xs) ≤ length xs
-  unfolding retain
-  retain-most [] = le-refl 0
-  retain-most (x ∷ xs) = go (p x) (retain-most xs)
-    where
-      go : (b : Bool) → length (retain p xs) ≤ length xs → length (if b then x ∷ retain p xs else retain p xs) ≤ suc (length xs)
-      go true h = omega arith
-      go false h = omega arith
-
-  retain-some : (P : A → Type 0) (xs : List A) → All P xs → All P (retain p xs)
-  unfolding retain
-  retain-some P [] h = tt
-  retain-some P (x ∷ xs) h = go (p x) (retain-some P xs (h .1))
-    where
-      go : (b : Bool) → All P (retain p xs) → All P (if b then x ∷ retain p xs else retain p xs)
-      go true k = (h .0, k)
-      go false k = k
 
 module _ (inst : ProblemInstance) (b : ℕ) where
   making-append : (xs ys : List ℕ) → makingIn inst (xs ++ ys) b ≡ makingIn inst xs b ++ makingIn inst ys b
@@ -116,7 +48,7 @@ module _ (inst : ProblemInstance) (b : ℕ) where
 
   making-most : (xs : List ℕ) → length (makingIn inst xs b) ≤ length xs
   unfolding makingIn onBoard
-  making-most xs = omega (arith, length-map (insertionIn inst) (retain (λ w. eqb (boardOf w) b) xs), retain-most (λ w. eqb (boardOf w) b) xs)
+  making-most xs = omega (arith, length-map (insertionIn inst) (retain (λ w. eqb (boardOf w) b) xs), length-retain (λ w. eqb (boardOf w) b) xs)
 
   making-panels : Ranged inst → (xs : List ℕ) → All (λ w. cutOf w < length (inst .cuts)) xs → All (λ i. PanelRange (i .cut)) (makingIn inst xs b)
   unfolding makingIn onBoard insertionIn cutIn
@@ -138,19 +70,18 @@ module _ (inst : ProblemInstance) (b : ℕ) where
   begun : (xs ys : List ℕ) → rebuild kerf (boardIn inst b) (makingIn inst (xs ++ ys) b) ≡ some (binIn inst (xs ++ ys) b) → Begun xs ys
   unfolding rebuild
   begun xs ys e =
-      let p = fold-parts (tryInsert kerf) (newSheet (boardIn inst b)) (makingIn inst xs b) (makingIn inst ys b) (binIn inst (xs ++ ys) b) (rw (making-append xs ys) at e) in
-      let same : binIn inst xs b ≡ p .middle = rebuilt-bin inst xs b (p .middle) (p .first) in
-      record { made = p .first ∙ ap some (sym same); rest = rw same (p .second) }
+      let whole : foldOption (tryInsert kerf) (newSheet (boardIn inst b)) (makingIn inst xs b ++ makingIn inst ys b) ≡ some (binIn inst (xs ++ ys) b) = rw (making-append xs ys) at e in
+      let p = through (foldOption (tryInsert kerf) (newSheet (boardIn inst b)) (makingIn inst xs b)) (λ s. foldOption (tryInsert kerf) s (makingIn inst ys b)) (binIn inst (xs ++ ys) b)
+      (sym (fold-append (tryInsert kerf) (newSheet (boardIn inst b)) (makingIn inst xs b) (makingIn inst ys b)) ∙ whole)
+      in
+      let same : binIn inst xs b ≡ p .value = rebuilt-bin inst xs b (p .value) (p .first) in
+      record { made = p .first ∙ ap some (sym same); rest = rw same (p .rest) }
 
 -- ---- a board that is rebuilt
 
 placed-behind : (kerf : ℕ) (s : GuillotineSheet) (i : Insertion) (p : Place) → insertAt kerf s i p .placedPieces ≡ s .placedPieces ++ (record { by = i; fit = p .fit } ∷ [])
 unfolding insertAt
 placed-behind kerf s i p = refl
-
-all-unit : (is : List Insertion) → All (λ i. Unit {0}) is
-all-unit [] = tt
-all-unit (i ∷ is) = (tt, all-unit is)
 
 -- an insertion puts its piece behind the others
 still-first : (kerf n : ℕ) (l : List PlacedPiece) (u : GuillotineSheet) (i : Insertion) (v : GuillotineSheet) → length l ≡ n → take n (u .placedPieces) ≡ l
@@ -203,7 +134,7 @@ module _ (inst : ProblemInstance) (words : List ℕ) (b : ℕ) (m : Rebuildable 
   unfolding rebuild newSheet
   bin-board =
       fold-keeps (tryInsert (inst .kerfWidth)) (λ s. s .stock ≡ boardIn inst b) (λ i. Unit {0}) (λ i s t q e h. tryInsert-inserted (inst .kerfWidth) s i t e .sameStock ∙ h)
-      (makingIn inst words b) (all-unit (makingIn inst words b)) (newSheet (boardIn inst b)) (binIn inst words b) refl (m .rebuilt)
+      (makingIn inst words b) (all-any (makingIn inst words b)) (newSheet (boardIn inst b)) (binIn inst words b) refl (m .rebuilt)
 
   pub board-range : Ranged inst → BoardRange (boardIn inst b)
   unfolding boardIn
@@ -244,7 +175,7 @@ module _ (inst : ProblemInstance) (words : List ℕ) (b : ℕ) (m : Rebuildable 
         rw next-words
         (fold-keeps (tryInsert (inst .kerfWidth)) (λ t. take (length (s .placedPieces)) (t .placedPieces) ≡ s .placedPieces) (λ j. Unit {0})
         (λ j u v q e k. still-first (inst .kerfWidth) (length (s .placedPieces)) (s .placedPieces) u j v refl k e)
-        (makingIn inst (word ∷ []) b) (all-unit (makingIn inst (word ∷ []) b)) s (binIn inst (take i words ++ (word ∷ [])) b) (take-length (s .placedPieces)) (last .rest))
+        (makingIn inst (word ∷ []) b) (all-any (makingIn inst (word ∷ []) b)) s (binIn inst (take i words ++ (word ∷ [])) b) (take-length (s .placedPieces)) (last .rest))
 
     pub cut-known : cutOf word < length (inst .cuts)
     cut-known = all-get (λ w. cutOf w < length (inst .cuts)) words i 0 (m .cuts) h

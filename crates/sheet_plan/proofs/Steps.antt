@@ -1,40 +1,38 @@
 -- A sheet's words from the bare board through an insertion.
-use Prim.Native.Nat.{ℕ, _+_, _*_, _^_, _≤_, _<_}
+use Prim.Native.Nat.{ℕ, _+_, _*_, _≤_, _<_}
 use native.Mathlib.Omega.{arith}
-use mathlib.Core.Path.{_≡_, refl, sym, ap, _∙_, subst}
+use mathlib.Core.Path.{_≡_, refl, sym, ap, _∙_}
 use mathlib.Core.Bool.{Bool}
-use mathlib.Core.List.{List, [], _∷_, _++_, map, append-nil}
-use mathlib.Core.Option.{Option, none, some, Option·some-injective, Option·none-ne-some}
-use lib.ListN.{length, getD, take, drop, length-append, take-append-drop}
+use mathlib.Core.List.{List, [], _∷_, _++_, append-nil}
+use mathlib.Core.Option.{some, Option·some-injective, Option·none-ne-some}
+use lib.ListN.{length, take, drop, length-append, take-append-drop}
 use lib.Seq.{drop-at, drop-length}
 use Rattle.lists.specs.Base.{sum, concatMap}
-use Rattle.lists.proofs.Sums.{sum-append, length-concatMap}
+use Rattle.lists.specs.Parts.{patch}
+use Rattle.lists.proofs.Sums.{sum-append}
+use Rattle.lists.proofs.Maps.{concatMap-append}
+use Rattle.lists.proofs.Parts.{patch-nil, then-patch}
 use Rattle.model.specs.declared.Rect.{Rect}
 use Rattle.model.specs.declared.StockInstance.{StockInstance}
 use Rattle.model.specs.declared.FitResult.{FitResult}
-use Rattle.model.specs.Types.{area, stockRect, stockArea}
-use Rattle.model.specs.Refusal.{mostSide}
-use Rattle.model.specs.Split.{splitDirection}
+use Rattle.model.specs.Types.{area, stockRect}
 use Rattle.model.specs.Guide.{leaf, free}
-use Rattle.model.specs.Merge.{mergesAny}
-use Rattle.model.specs.Sheet.{GuillotineSheet, PlacedPiece, Insertion, Place, newSheet, splitRects, insertAt, tryInsert, placedArea}
-use Rattle.model.specs.Plan.{pieceWords, nodesOf}
-use Rattle.trust.proofs.Candidate.{concatMap-append}
+use Rattle.model.specs.Sheet.{GuillotineSheet, PlacedPiece, Insertion, Place, newSheet, insertAt, tryInsert, placedArea}
+use Rattle.model.specs.Plan.{pieceWords}
 use Rattle.trust.proofs.Ranges.{PanelRange}
-use Rattle.trust.proofs.Placing.{Good, bestPlace-good}
+use Rattle.trust.proofs.Placing.{bestPlace-good}
 use Rattle.trust.proofs.Bounded.{Bounded, tryInsert-bounded, placed-most, board-area-most}
+use Rattle.trust.proofs.RoundTrip.{pieces-size}
 use Rattle.guillotine.specs.declared.Inserted.{Inserted}
 use Rattle.guillotine.specs.declared.Inserted.the-variants as inserted
-use Rattle.guillotine.specs.SheetWords.{rectsIn, withRects, Shows}
+use Rattle.guillotine.specs.SheetWords.{withRects, Shows}
 use Rattle.guillotine.specs.Places.{placeAt}
-use Rattle.guillotine.specs.Insertions.{Ready, Insertable, InsertsInto}
+use Rattle.guillotine.specs.Insertions.{Insertable, InsertsInto}
 use Rattle.guillotine.proofs.Words.{rects-with, length-rects}
 use Rattle.guillotine.proofs.Sheets.{new-shows, new-ready, inserts-nothing, Placed, inserts-at}
-use Rattle.guide.specs.Lists.{patch}
-use Rattle.guide.specs.Words.{Holds, Became, InCorner, nextGuide}
-use Rattle.guide.proofs.Lists.{patch-nil, then-patch}
+use Rattle.guide.specs.Words.{Became}
 use Rattle.guide.proofs.Guides.{became-holds}
-use Rattle.guide.proofs.Sheets.{new-guide-is, next-guide-is, in-corner, room}
+use Rattle.guide.proofs.Sheets.{next-guide-is, in-corner, room}
 use Rattle.sheet_plan.specs.declared.Progress.{Progress}
 use Rattle.sheet_plan.specs.Rows.{newPieces}
 use Rattle.sheet_plan.specs.Replaying.{Replayed, Boardable, Takeable, Takes}
@@ -144,13 +142,6 @@ module _ (kerf : ℕ) (s t : GuillotineSheet) (i : Insertion) (w g : List ℕ) (
 
 -- ---- pieces in the plan
 
-piece-length : (q : PlacedPiece) → length (pieceWords q) ≡ 9
-unfolding pieceWords
-piece-length q = refl
-
-pub pieces-length : (qs : List PlacedPiece) → length (concatMap pieceWords qs) ≡ 9 * length qs
-pieces-length qs = omega (arith, length-concatMap 9 pieceWords piece-length qs)
-
 -- new ones behind the old
 pub pieces-more : (plan₀ plan plan′ : List ℕ) (at : ℕ) (s t : GuillotineSheet) → at + 9 * length (s .placedPieces) ≤ length plan₀
     → take (length (s .placedPieces)) (t .placedPieces) ≡ s .placedPieces → plan ≡ patch plan₀ at (concatMap pieceWords (s .placedPieces))
@@ -160,6 +151,6 @@ pieces-more plan₀ plan plan′ at s t room first e f =
     let old = s .placedPieces in
     let new = drop (length old) (t .placedPieces) in
     let all : old ++ new ≡ t .placedPieces = ap (λ (l : List PlacedPiece). l ++ new) (sym first) ∙ take-append-drop (length old) (t .placedPieces) in
-    let size : at + 9 * length old ≡ at + length (concatMap pieceWords old) = omega (arith, pieces-length old) in
+    let size : at + 9 * length old ≡ at + length (concatMap pieceWords old) = omega (arith, pieces-size old) in
     then-patch plan₀ plan plan′ at (concatMap pieceWords old) (concatMap pieceWords new) (at + 9 * length old) e f size (omega arith)
     ∙ ap (patch plan₀ at) (sym (concatMap-append pieceWords old new) ∙ ap (concatMap pieceWords) all)

@@ -7,6 +7,9 @@ use mathlib.Core.List.{List}
 use mathlib.Core.Option.{some}
 use lib.ListN.{length, getD, take, length-take}
 use Rattle.lists.specs.Base.{concatMap}
+use Rattle.lists.specs.Parts.{patch}
+use Rattle.lists.proofs.Every.{all-get}
+use Rattle.lists.proofs.Parts.{patch-nil}
 use Rattle.model.specs.declared.Rect.{Rect}
 use Rattle.model.specs.declared.PatternDirection.{PatternDirection}
 use Rattle.model.specs.declared.StockInstance.{StockInstance}
@@ -18,13 +21,10 @@ use Rattle.model.specs.Expand.{ProblemInstance}
 use Rattle.model.specs.Plan.{pieceWords, sheetWords}
 use Rattle.trust.proofs.Ranges.{PanelRange, Ranged}
 use Rattle.trust.proofs.Bounded.{Bounded}
-use Rattle.free_rects.proofs.Arrays.{all-get}
 use Rattle.guillotine.specs.declared.Inserted.{Inserted}
 use Rattle.guillotine.specs.declared.Inserted.the-variants as inserted
 use Rattle.guillotine.specs.SheetWords.{Shows}
 use Rattle.guillotine.specs.Insertions.{Insertable, InsertsInto, Inserts}
-use Rattle.guide.specs.Lists.{patch}
-use Rattle.guide.proofs.Lists.{patch-nil}
 use Rattle.candidate.specs.Entries.{boardOf, cutOf, rowOf}
 use Rattle.candidate.specs.Stands.{boardIn, cutIn, insertionIn, binIn, noCut}
 use Rattle.sheet_plan.specs.declared.Progress.{Progress}

@@ -6,10 +6,10 @@ use mathlib.Core.Path.{_≡_, refl, sym, ap, _∙_}
 use mathlib.Core.List.{List, [], _∷_, _++_, map}
 use lib.ListN.{length, getD, set, take, drop, length-drop}
 use lib.Seq.{drop-cons, drop-drop, take-add, getD-drop, paste, paste-suc}
-use Rattle.lists.specs.Base.{countFrom, range, concatMap}
+use Rattle.lists.specs.Base.{countFrom, concatMap}
+use Rattle.lists.specs.Parts.{patch}
+use Rattle.lists.proofs.Parts.{paste-patch}
 use Rattle.model.specs.Plan.{rectWords}
-use Rattle.guide.specs.Lists.{patch}
-use Rattle.guide.proofs.Lists.{paste-patch}
 use Rattle.guillotine.specs.SheetWords.{rectAt, rectsIn}
 
 -- four words from an index on

@@ -6,6 +6,7 @@ use mathlib.Core.List.{List}
 use mathlib.Core.Option.{some}
 use lib.ListN.{length, take}
 use Rattle.lists.specs.Base.{concatMap}
+use Rattle.lists.specs.Parts.{patch}
 use Rattle.lists.proofs.Perm.{All}
 use Rattle.model.specs.declared.Rect.{Rect}
 use Rattle.model.specs.declared.StockInstance.{StockInstance}
@@ -22,7 +23,6 @@ use Rattle.trust.proofs.Ranges.{BoardRange}
 use Rattle.trust.proofs.Bounded.{Bounded}
 use Rattle.guillotine.specs.SheetWords.{rectsIn, Shows}
 use Rattle.guillotine.specs.Insertions.{Ready}
-use Rattle.guide.specs.Lists.{patch}
 use Rattle.guide.specs.Words.{Holds, Guided, InCorner, Becomes, nextGuide}
 use Rattle.candidate.specs.Entries.{cutOf}
 use Rattle.candidate.specs.Stands.{boardIn, makingIn, binIn}

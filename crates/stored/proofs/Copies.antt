@@ -1,5 +1,5 @@
 -- The loop that copies a slot over another: the two are one, or lie apart.
-use mathlib.Core.Path.{_≡_, refl, sym, ap, ap₂, _∙_}
+use mathlib.Core.Path.{_≡_, sym, ap, ap₂, _∙_}
 use mathlib.Core.Logic.{_⊎_, inl, inr}
 use mathlib.Core.List.{List}
 use Prim.Native.Nat.{ℕ, _+_, _-_, _*_, _≤_, _<_}
@@ -8,9 +8,9 @@ use native.Mathlib.Numerals.{add-one}
 use native.Mathlib.Omega.{arith}
 use lib.ListN.{length, getD, set}
 use lib.Seq.{paste, paste-suc}
-use Rattle.guide.specs.Lists.{part, patch}
+use Rattle.lists.specs.Parts.{patch}
+use Rattle.lists.proofs.Parts.{length-part, paste-all, copy-read}
 use Rattle.stored.specs.Slots.{slotWords, slotOf}
-use Rattle.stored.proofs.Parts.{length-part, paste-all, copy-read}
 
 apart : (from to : ℕ) → (slotWords * to ≤ slotWords * from) ⊎ (slotWords * from + slotWords ≤ slotWords * to)
 apart from to = go (eq-zero-or-pos (to - from))

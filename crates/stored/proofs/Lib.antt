@@ -1,5 +1,4 @@
 -- Laws that belong to no one function.
-pub mod Parts
 pub mod Copies
 pub mod Slots
 pub mod Populations

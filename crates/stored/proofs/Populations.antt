@@ -9,28 +9,21 @@ use native.Mathlib.Numerals.{add-one}
 use lib.ListN.{length, getD, take, drop}
 use lib.Seq.{take-take, drop-drop}
 use Rattle.lists.specs.Base.{countFrom}
+use Rattle.lists.specs.Parts.{part, patch}
 use Rattle.lists.proofs.Perm.{All, all-append}
 use Rattle.lists.proofs.Sums.{length-map, length-countFrom, map-append}
+use Rattle.lists.proofs.Counts.{count-snoc}
+use Rattle.lists.proofs.Parts.{length-part, take-patch, drop-patch, part-patch, part-take}
 use Rattle.model.specs.Candidate.{Candidate}
 use Rattle.model.specs.Expand.{ProblemInstance}
 use Rattle.trust.proofs.Proper.{CandidateProper}
-use Rattle.guide.specs.Lists.{part, patch}
 use Rattle.candidate.specs.declared.Candidate.{Candidate as Words}
 use Rattle.candidate.specs.Stands.{candidateIn, Stands}
-use Rattle.candidate.proofs.Lists.{count-snoc}
-use Rattle.stored.specs.Slots.{slotWords, slotOf, packed, unpacked, storedIn, storeIn, trimmed}
+use Rattle.stored.specs.Slots.{slotWords, slotOf, packed, unpacked, storedIn, storeIn}
 use Rattle.stored.specs.Populations.{wordsAt, candidateAt, StandsAt, populationIn, AllStand, OnlySlots}
-use Rattle.stored.proofs.Parts.{length-part, take-patch, drop-patch, part-patch}
 use Rattle.stored.proofs.Slots.{length-packed, stored-back, trimmed-candidate, trimmed-stands}
 
 -- ---- slots that are as found
-
--- a part of a front
-part-take : {A : Type 0} (c n a : ℕ) (l : List A) → c + n ≤ a → part (take a l) c n ≡ part l c n
-part-take zero n a l h = take-take n a l (omega arith)
-part-take (suc c) n zero l h = absurd (omega arith)
-part-take (suc c) n (suc a) [] h = refl
-part-take (suc c) n (suc a) (x ∷ l) h = part-take c n a l (omega arith)
 
 module _ (lo hi : ℕ) (before after : List ℕ) (o : OnlySlots lo hi before after) where
   slot-low : (k : ℕ) → k < lo → slotOf after k ≡ slotOf before k

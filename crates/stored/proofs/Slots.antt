@@ -1,25 +1,23 @@
 -- A candidate stored and loaded again: the same counts, boards, insertions and unused cuts, so it stands for the same candidate.
-use mathlib.Core.Path.{_≡_, refl, sym, ap, ap₂, _∙_, subst, subst₂}
-use mathlib.Core.List.{List, [], _∷_, _++_, map, append-assoc, List·Memᴰ}
+use mathlib.Core.Path.{_≡_, sym, ap, _∙_, subst, subst₂}
+use mathlib.Core.List.{List, [], _∷_, _++_, map, append-assoc, List·Memᴰ, append-nil}
 use mathlib.Core.Option.{some}
-use Prim.Native.Nat.{ℕ, _+_, _-_, _*_, _≤_, _<_}
+use Prim.Native.Nat.{ℕ, _+_, _-_, _*_, _≤_}
 use native.Mathlib.Omega.{arith}
-use lib.ListN.{length, getD, take, drop, set, replicate, length-append, length-take, length-set, length-replicate, drop-of-length-le}
-use lib.Seq.{take-at, drop-at, take-append-add, drop-drop, length-take-le}
+use lib.ListN.{length, take, drop, set, replicate, length-append, length-take, length-set, length-replicate, drop-of-length-le}
+use lib.Seq.{take-at, drop-at, take-append-add, drop-drop}
 use Rattle.lists.specs.Base.{range}
+use Rattle.lists.specs.Parts.{part, patch}
 use Rattle.lists.proofs.Perm.{Perm, All, length-perm}
 use Rattle.lists.proofs.Sums.{length-map, length-countFrom}
+use Rattle.lists.proofs.Parts.{length-patch, then-patch, set-patch, part-patch}
 use Rattle.model.specs.Sheet.{rebuild}
-use Rattle.model.specs.Candidate.{Candidate}
 use Rattle.model.specs.Expand.{ProblemInstance}
 use Rattle.trust.proofs.Proper.{UnderWay}
-use Rattle.guide.specs.Lists.{part, patch}
-use Rattle.guide.proofs.Lists.{length-patch, then-patch}
 use Rattle.candidate.specs.declared.Candidate.{Candidate as Words}
 use Rattle.candidate.specs.Entries.{boardOf, cutOf}
 use Rattle.candidate.specs.Stands.{boardIn, cutIn, makingIn, binIn, sheetBoards, availableBoards, placedWords, unusedNumbers, candidateIn, Stands}
 use Rattle.stored.specs.Slots.{slotWords, slotOf, filled, packed, unpacked, storedIn, storeIn, Storable, trimmed}
-use Rattle.stored.proofs.Parts.{set-patch, part-patch}
 
 -- ---- what the stores leave
 
@@ -42,11 +40,7 @@ store-words l l₂ l₃ l₄ at s p b x y hb hx h e₂ e₃ e₄ =
 
 pub filled-all : (l : List ℕ) → length l ≡ 64 → filled l ≡ l
 unfolding filled
-filled-all l h = ap (λ (r : List ℕ). l ++ r) (drop-of-length-le (replicate 64 0) {i = length l} (omega (arith, length-replicate {A = ℕ} 64 0))) ∙ simp append-nil
-  where
-    append-nil : (l : List ℕ) → l ++ [] ≡ l
-    append-nil [] = refl
-    append-nil (x ∷ l) = ap {B = List ℕ} (λ r. x ∷ r) (append-nil l)
+filled-all l h = ap (λ (r : List ℕ). l ++ r) (drop-of-length-le (replicate 64 0) {i = length l} (omega (arith, length-replicate {A = ℕ} 64 0))) ∙ append-nil l
 
 take-filled : (l : List ℕ) (n : ℕ) → length l ≡ n → take n (filled l) ≡ l
 unfolding filled

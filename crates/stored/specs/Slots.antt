@@ -1,8 +1,8 @@
 -- A slot of the workspace: the words of one candidate, and the candidate of words that they are.
 use Prim.Native.Nat.{ℕ, _+_, _-_, _*_, _≤_}
 use mathlib.Core.List.{List, _∷_, _++_}
-use lib.ListN.{length, getD, take, drop, replicate}
-use Rattle.guide.specs.Lists.{part, patch}
+use lib.ListN.{length, getD, drop, replicate}
+use Rattle.lists.specs.Parts.{part, patch}
 use Rattle.candidate.specs.declared.Candidate.{Candidate as Words}
 use Rattle.candidate.specs.Stands.{placedWords, unusedNumbers}
 

@@ -3,24 +3,12 @@
 use candidate::Candidate;
 ghost use mathlib.Core.Path.{_≡_};
 ghost use Prim.Native.Nat.{_+_, _*_, _≤_};
-ghost use lib.ListN.{length, getD, take};
-ghost use Rattle.guide.specs.Lists.{part, patch};
+ghost use lib.ListN.{length, getD};
+ghost use Rattle.lists.specs.Parts.{part, patch};
 ghost use Rattle.stored.specs.Slots.{slotWords, slotOf, filled, unpacked, storedIn, storeIn, Storable};
 
 // The words of a slot.
 pub const STORED: usize = 130;
-
-// The first n words into `ws` from an index on.
-fn put_words(ws: &mut [u32], at: usize, words: &[u32], n: usize)
-    requires { ⌜ (n ≤ length (now words)) × (at + n ≤ length (now ws)) ⌝ }
-    ensures { λ _. ⌜ now (ws .exit) ≡ patch (now (ws .entry)) at (take n (now (words .entry))) ⌝ }
-{
-    let mut i: usize = 0;
-    while i < n {
-        ws[at + i] = words[i];
-        i += 1;
-    }
-}
 
 // n words from an index on, and zeros behind them.
 fn get_words(block: &[u32], at: usize, n: usize) -> [u32; 64]
@@ -43,9 +31,9 @@ pub fn store_at(ws: &mut [u32], slot: usize, c: Candidate)
     let at = STORED * slot;
     ws[at] = c.sheets as u32;
     ws[at + 1] = c.placed as u32;
-    put_words(ws, at + 2, &c.boards, 64);
-    put_words(ws, at + 66, &c.insertions, c.placed);
-    put_words(ws, at + 66 + c.placed, &c.unused, c.unused_count);
+    copying::put_words(ws, at + 2, &c.boards, 64);
+    copying::put_words(ws, at + 66, &c.insertions, c.placed);
+    copying::put_words(ws, at + 66 + c.placed, &c.unused, c.unused_count);
 }
 
 // A slot's candidate of so many cuts.

@@ -14,7 +14,7 @@ use Rattle.model.specs.Sheet.{GuillotineSheet, PlacedPiece, Insertion, Place, n
 use Rattle.model.specs.Account.{mergeGain, placeLoss, placeGain, accountFrom}
 use Rattle.lists.proofs.Perm.{sum-perm}
 use Rattle.lists.proofs.Sums.{map-append}
-use Rattle.trust.proofs.Options.{through}
+use Rattle.lists.proofs.Options.{through}
 use Rattle.trust.proofs.Area.{areas, areas-append, mergeRounds-area, split-area}
 use Rattle.trust.proofs.Placing.{Good, bestPlace-good, at-best}
 use Rattle.trust.proofs.Sheet.{pieceRects, sheetRects, direction, left, new, chosen-first, in-order}

@@ -1,18 +1,15 @@
 -- The whole: a plan is the words of a winner, and that winner has all that demand 3 asks.
 use Prim.Native.Nat.{ℕ}
-use mathlib.Core.Path.{_≡_, refl, sym, ap, _∙_, subst}
+use mathlib.Core.Path.{_≡_, refl, sym, ap, subst}
 use mathlib.Core.Logic.{_⊎_, inl, inr}
-use mathlib.Core.Bool.{Bool, true, false}
 use mathlib.Core.List.{List, [], _∷_, map}
 use mathlib.Core.Option.{Option, none, some, Option·getD}
-use lib.IntN.{pos}
-use lib.Ieee.{fin}
 use Rattle.lists.specs.Base.{if_then_else_, isEmpty}
 use Rattle.model.specs.declared.BaselineGuillotineHeuristic.{BaselineGuillotineHeuristic}
 use Rattle.model.specs.declared.LayoutKind.{LayoutKind}
 use Rattle.model.specs.declared.CutInstance.{CutInstance}
 use Rattle.model.specs.Types.{layoutOf, effortOf}
-use Rattle.model.specs.Sheet.{GuillotineSheet, Insertion, makingOf}
+use Rattle.model.specs.Sheet.{makingOf}
 use Rattle.model.specs.Fitness.{fitness, positiveZero, one}
 use Rattle.model.specs.Candidate.{Candidate}
 use Rattle.model.specs.Project.{Project, projectOf}

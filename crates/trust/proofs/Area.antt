@@ -1,9 +1,9 @@
 -- The area of a sheet's rectangles: an insertion takes the loss of its split and gives back what its merges do.
 use Prim.Native.Nat.{ℕ, zero, suc, _+_, _-_, _*_, _≤_, _<_, min}
-use native.Mathlib.Nat.{mul-add, add-mul, mul-comm, min-eq-left, min-eq-right, le-of-lt, add-assoc}
+use native.Mathlib.Nat.{mul-add, add-mul, mul-comm, min-eq-left, min-eq-right, le-of-lt}
 use native.Mathlib.Omega.{arith}
 use mathlib.Core.Path.{_≡_, refl, sym, ap, _∙_, subst}
-use mathlib.Core.Bool.{Bool, true, false, not, _&&_, _||_}
+use mathlib.Core.Bool.{Bool, true, false, not, _||_}
 use mathlib.Core.List.{List, [], _∷_, _++_, map}
 use mathlib.Core.Option.{Option, none, some, Option·some-injective, Option·none-ne-some}
 use lib.Dec.{T, ltb, ltb→lt, nltb→le}

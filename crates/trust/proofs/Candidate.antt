@@ -1,11 +1,11 @@
 -- A candidate keeps every board and every panel of the instance exactly once, and its sheets keep whatever an insertion keeps.
-use Prim.Native.Nat.{ℕ, _+_, _<_}
+use Prim.Native.Nat.{ℕ}
 use mathlib.Core.Path.{_≡_, refl, sym, ap, _∙_, subst}
-use mathlib.Core.Bool.{Bool, true, false, not}
+use mathlib.Core.Bool.{not}
 use mathlib.Core.List.{List, [], _∷_, _++_, map, append-assoc, append-nil, List·Memᴰ, List·Memᴰ·head}
 use mathlib.Core.Option.{Option, none, some, Option·some-injective, Option·none-ne-some}
 use lib.Dec.{T, T-not, not-T, eqb, eqb→eq, eqb-refl}
-use Rattle.lists.specs.Base.{if_then_else_, _>>=_, _<|>_, retain, foldl, concatMap}
+use Rattle.lists.specs.Base.{_>>=_, _<|>_, foldl, concatMap}
 use Rattle.model.specs.declared.BaselineGuillotineHeuristic.{BaselineGuillotineHeuristic}
 use Rattle.model.specs.declared.StockInstance.{StockInstance}
 use Rattle.model.specs.declared.CutInstance.{CutInstance}
@@ -15,6 +15,8 @@ use Rattle.model.specs.Sheet.{GuillotineSheet, Insertion, newSheet, tryInsert, 
 use Rattle.model.specs.Candidate.{Candidate, Taken, insertInBins, takeFirstFittingStock, removeUnusedCut, inBins, onNewBoard, unplaced, firstEnd, placeCutFirstFit, placeCuts, reinsertUnusedFirstFit}
 use Rattle.lists.proofs.Perm.{Perm, keep, flip, also, perm-refl, perm-sym, perm-append-left, perm-append-right, perm-middle, All, Pairs, all-map, all-append, all-left, all-right, all-perm, pairs-perm, mem-perm}
 use Rattle.lists.proofs.Sums.{map-append}
+use Rattle.lists.proofs.Kept.{retain-all}
+use Rattle.lists.proofs.Maps.{concatMap-append}
 use Rattle.trust.proofs.Truth.{and-intro, and-split}
 use Rattle.trust.proofs.Sheet.{tryInsert-inserted}
 
@@ -111,20 +113,6 @@ Differ a b = T (not (sameKey (cutKey a) (cutKey b)))
 -- the keys are those of different instances
 abbrev pub Distinct : List CutInstance → Type 0
 Distinct cuts = Pairs Differ cuts
-
-pub retain-all : {A : Type 0} (p : A → Bool) (xs : List A) → All (λ x. T (p x)) xs → retain p xs ≡ xs
-unfolding retain
-retain-all p [] h = refl
-retain-all {A} p (x ∷ xs) h = go (p x) (h .0) (retain-all p xs (h .1))
-  where
-    go : (b : Bool) → T b → retain p xs ≡ xs → (if b then x ∷ retain p xs else retain p xs) ≡ x ∷ xs
-    go true t e = ap {B = List A} (λ r. x ∷ r) e
-    go false t e = absurd t
-
-pub concatMap-append : {A B : Type 0} (f : A → List B) (xs ys : List A) → concatMap f (xs ++ ys) ≡ concatMap f xs ++ concatMap f ys
-unfolding concatMap
-concatMap-append f [] ys = refl
-concatMap-append f (x ∷ xs) ys = ap (λ r. f x ++ r) (concatMap-append f xs ys) ∙ sym (append-assoc (f x) (concatMap f xs) (concatMap f ys))
 
 new-cuts : (bins : List GuillotineSheet) (t : Taken) {cut : CutInstance} → cutsOf (t .bin) ≡ cut ∷ [] → placedCuts (bins ++ (t .bin ∷ [])) ≡ placedCuts bins ++ (cut ∷ [])
 unfolding concatMap

@@ -1,15 +1,14 @@
 -- What the file's checks leave of the instance: positive sides (6), and ids, hence keys, of one's own (9).
-use Prim.Native.Nat.{ℕ, zero, suc, _+_, _≤_, _<_}
-use native.Mathlib.Nat.{le-refl}
+use Prim.Native.Nat.{ℕ, zero, suc, _+_, _<_}
 use native.Mathlib.Omega.{arith}
 use mathlib.Core.Path.{_≡_, refl, sym}
 use mathlib.Core.Logic.{_⊎_, inl, inr}
 use mathlib.Core.Bool.{Bool, true, false, not, _&&_, true≢false}
-use mathlib.Core.List.{List, [], _∷_, _++_, map}
+use mathlib.Core.List.{List, [], _∷_, _++_}
 use mathlib.Core.Option.{Option, none, some, Option·some-ne-none}
 use lib.Dec.{T, eqb}
 use borrow.Author.Tests.{eqb-false, ne-eqb}
-use Rattle.lists.specs.Base.{if_then_else_, _<|>_, any, countFrom, range, concatMap}
+use Rattle.lists.specs.Base.{if_then_else_, _<|>_, any, range, concatMap}
 use Rattle.model.specs.declared.StockInstance.{StockInstance}
 use Rattle.model.specs.declared.CutInstance.{CutInstance}
 use Rattle.model.specs.declared.InstanceKey.{InstanceKey}
@@ -18,8 +17,9 @@ use Rattle.model.specs.Project.{Piece, Project, projectOf, wellFormed}
 use Rattle.model.specs.Refusal.{Check, firstThatApplies, RecordRule, stockRule, cutRule, recordChecks, settingsChecks, wholeChecks, projectChecks, fileChecks, fileRefusal, zeroSide}
 use Rattle.model.specs.Expand.{compareStock, stockInstances, cutInstances, expandProject}
 use Rattle.lists.proofs.Perm.{perm-sym, All, Pairs, all-map, all-append, all-left, all-right, all-perm, pairs-perm, sortBy-perm}
+use Rattle.lists.proofs.Every.{concatMap-all, all-map-any, pairs-map}
+use Rattle.lists.proofs.Counts.{count-rises}
 use Rattle.trust.proofs.Truth.{or-false-split}
-use Rattle.trust.proofs.Placing.{concatMap-all, map-all}
 use Rattle.trust.proofs.Candidate.{Differ, Distinct}
 use Rattle.trust.proofs.Crossover.{DifferBoards, board-sym}
 use Rattle.trust.proofs.Winner.{Admitted}
@@ -99,24 +99,6 @@ key-differs a b s = go (eqb (a .id) (b .id)) (eqb (a .instance) (b .instance)) s
     go true false s = tt
     go false q s = tt
 
-numbers-from : (i n : ℕ) → All (λ k. i ≤ k) (countFrom i n)
-unfolding countFrom
-numbers-from i zero = tt
-numbers-from i (suc n) = (le-refl i, all-map (λ k. suc i ≤ k) (λ k. i ≤ k) (λ k h. omega arith) (countFrom (suc i) n) (numbers-from (suc i) n))
-
-numbers-rise : (i n : ℕ) → Pairs (λ j k. j < k) (countFrom i n)
-unfolding countFrom
-numbers-rise i zero = tt
-numbers-rise i (suc n) = (numbers-from (suc i) n, numbers-rise (suc i) n)
-
-pairs-map : {A B : Type 0} (R : A → A → Type 0) (S : B → B → Type 0) (f : A → B) → ((a b : A) → R a b → S (f a) (f b)) → (xs : List A) → Pairs R xs → Pairs S (map f xs)
-pairs-map R S f g [] h = tt
-pairs-map R S f g (x ∷ xs) h = (map-all (R x) (S (f x)) f (λ y k. g x y k) xs (h .0), pairs-map R S f g xs (h .1))
-
-pub all-map-any : {A B : Type 0} (P : B → Type 0) (f : A → B) → ((x : A) → P (f x)) → (xs : List A) → All P (map f xs)
-all-map-any P f g [] = tt
-all-map-any P f g (x ∷ xs) = (g x, all-map-any P f g xs)
-
 -- what different records give differs, and what one record gives does
 module _ {A B : Type 0} (R : B → B → Type 0) (S : A → A → Type 0) (From : A → B → Type 0) (f : A → List B)
     (from : (x : A) → All (From x) (f x)) (inner : (x : A) → Pairs R (f x)) (outer : (x y : A) (a b : B) → S x y → From x a → From y b → R a b) where
@@ -140,14 +122,14 @@ stock-own : (ps : List Piece) → Pairs OtherId ps → Pairs DifferBoards (conca
 stock-own =
     pairs-concatMap DifferBoards OtherId (λ p s. s .«stock_id» ≡ p .id) stockInstances
     (λ p. unfold stockInstances in all-map-any _ _ (λ n. refl) (range (p .quantity)))
-    (λ p. unfold stockInstances in pairs-map (λ j k. j < k) DifferBoards _ (λ j k h. key-differs _ _ (inr (ne-eqb j k (λ e. omega arith)))) (range (p .quantity)) (numbers-rise 0 (p .quantity)))
+    (λ p. unfold stockInstances in pairs-map (λ j k. j < k) DifferBoards _ (λ j k h. key-differs _ _ (inr (ne-eqb j k (λ e. omega arith)))) (range (p .quantity)) (count-rises 0 (p .quantity)))
     (λ p q a b s i j. key-differs (stockKey a) (stockKey b) (inl (rw (i, j) (swapped (p .id) (q .id) s))))
 
 cuts-own : (ps : List Piece) → Pairs OtherId ps → Distinct (concatMap cutInstances ps)
 cuts-own =
     pairs-concatMap Differ OtherId (λ p s. s .«cut_id» ≡ p .id) cutInstances
     (λ p. unfold cutInstances in all-map-any _ _ (λ n. refl) (range (p .quantity)))
-    (λ p. unfold cutInstances in pairs-map (λ j k. j < k) Differ _ (λ j k h. key-differs _ _ (inr (ne-eqb j k (λ e. omega arith)))) (range (p .quantity)) (numbers-rise 0 (p .quantity)))
+    (λ p. unfold cutInstances in pairs-map (λ j k. j < k) Differ _ (λ j k h. key-differs _ _ (inr (ne-eqb j k (λ e. omega arith)))) (range (p .quantity)) (count-rises 0 (p .quantity)))
     (λ p q a b s i j. key-differs (cutKey a) (cutKey b) (inl (rw (i, j) (swapped (p .id) (q .id) s))))
 
 -- ---- the instance

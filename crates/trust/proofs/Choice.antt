@@ -1,15 +1,14 @@
 -- The place that an insertion takes is a choice after Jylänki: no place measures less by the paper's measure of the heuristic.
-use Prim.Native.Nat.{ℕ, zero, suc, _+_, _-_, _*_, _≤_, _<_, min, max, compare, Ordering, Ordering·lt, Ordering·eq, Ordering·gt}
+use Prim.Native.Nat.{ℕ, _*_, _≤_, compare, Ordering, Ordering·lt, Ordering·eq, Ordering·gt}
 use native.Mathlib.Nat.{le-refl, le-trans, le-of-lt, le-of-eq, mul-comm, mul-le-mul}
 use native.Mathlib.Omega.{arith}
 use mathlib.Core.Path.{_≡_, refl, sym, ap, _∙_, subst}
 use mathlib.Core.Bool.{Bool, true, false, not, true≢false, false≢true}
 use mathlib.Core.List.{List, [], _∷_}
-use mathlib.Core.Option.{Option, none, some, Option·some-injective, Option·none-ne-some}
-use lib.Dec.{T, isLe, isEq, leb, eqb, leb→le, nleb→lt, eqb→eq}
+use mathlib.Core.Option.{some, Option·some-injective}
+use lib.Dec.{T, isLe, isEq, leb→le, nleb→lt, eqb→eq}
 use Rattle.lists.specs.Base.{if_then_else_, isLess, thenWith, lexicographic, keepBest, firstBest}
 use Rattle.model.specs.declared.GuillotineRectChoice.{GuillotineRectChoice}
-use Rattle.model.specs.declared.BaselineGuillotineHeuristic.{BaselineGuillotineHeuristic}
 use Rattle.model.specs.declared.Rect.{Rect}
 use Rattle.model.specs.declared.CutInstance.{CutInstance}
 use Rattle.model.specs.declared.FitResult.{FitResult}

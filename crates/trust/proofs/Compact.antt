@@ -12,7 +12,7 @@ use Rattle.model.specs.declared.CutInstance.{CutInstance}
 use Rattle.model.specs.Sheet.{GuillotineSheet, sheetKeys}
 use Rattle.model.specs.Candidate.{Candidate, cutsForKeys, worstBin, compacted, compactWorstBin}
 use Rattle.lists.proofs.Perm.{Perm, also, perm-sym, perm-append-left, perm-append-right, perm-append-comm, perm-middle, all-map, all-perm, mem-perm, map-perm, concatMap-perm, removeAt-perm, all-self}
-use Rattle.trust.proofs.Options.{through}
+use Rattle.lists.proofs.Options.{through}
 use Rattle.trust.proofs.Placing.{At, enumerate-at, firstBest-all}
 use Rattle.trust.proofs.Candidate.{cutsOf, placedCuts, boardsOf, Distinct, Kept}
 use Rattle.trust.proofs.Keys.{cutsForKeys-known, sheetKeys-cuts}

@@ -16,48 +16,19 @@ use Rattle.model.specs.Sheet.{GuillotineSheet, Insertion, newSheet, tryInsert, 
 use Rattle.model.specs.Candidate.{Candidate, containsKey, cutsForKeys}
 use Rattle.model.specs.Expand.{ProblemInstance}
 use Rattle.model.specs.Search.{bestDonorBin, fullStock, crossoverChild, childOf}
-use Rattle.lists.proofs.Perm.{Perm, done, keep, flip, also, perm-refl, perm-sym, perm-append-left, All, Pairs, all-map, all-right, pairs-perm, mem-perm, map-perm, removeAt-perm, in-all, all-self}
-use Rattle.trust.proofs.Options.{through, all-some, fold-keeps}
-use Rattle.trust.proofs.Placing.{At, enumerate-at, map-all}
-use Rattle.trust.proofs.Candidate.{cutsOf, placedCuts, Differ, Distinct, differ-sym, sameKey-refl, sameKey-eq, retain-all, Kept}
+use Rattle.lists.proofs.Perm.{Perm, also, perm-sym, perm-append-left, All, Pairs, all-map, all-right, pairs-perm, mem-perm, map-perm, removeAt-perm, in-all, all-self}
+use Rattle.lists.proofs.Options.{fold-keeps, all-some, through}
+use Rattle.lists.proofs.Every.{map-all}
+use Rattle.lists.proofs.Kept.{retain-append, retain-none, retain-perm, retain-all}
+use Rattle.lists.proofs.Booleans.{is-true, is-false}
+use Rattle.trust.proofs.Placing.{At, enumerate-at}
+use Rattle.trust.proofs.Candidate.{cutsOf, placedCuts, Differ, Distinct, differ-sym, sameKey-refl, sameKey-eq, Kept}
 use Rattle.trust.proofs.Sheet.{Inserted, all-inserted}
-use Rattle.trust.proofs.Keys.{is-true, is-false, sheetKeys-cuts}
+use Rattle.trust.proofs.Keys.{sheetKeys-cuts}
 use Rattle.trust.proofs.Compact.{bin-panels, bin-found}
+use Rattle.trust.proofs.Truth.{or-right}
 
 -- ---- lists
-
-pub retain-append : {A : Type 0} (p : A → Bool) (xs ys : List A) → retain p (xs ++ ys) ≡ retain p xs ++ retain p ys
-unfolding retain
-retain-append p [] ys = refl
-retain-append {A} p (x ∷ xs) ys = go (p x) (retain-append p xs ys)
-  where
-    go : (b : Bool) → retain p (xs ++ ys) ≡ retain p xs ++ retain p ys
-        → (if b then x ∷ retain p (xs ++ ys) else retain p (xs ++ ys)) ≡ (if b then x ∷ retain p xs else retain p xs) ++ retain p ys
-    go true e = ap {B = List A} (λ r. x ∷ r) e
-    go false e = e
-
-pub retain-none : {A : Type 0} (p : A → Bool) (xs : List A) → All (λ x. T (not (p x))) xs → retain p xs ≡ []
-unfolding retain
-retain-none p [] h = refl
-retain-none {A} p (x ∷ xs) h = rw (is-false (p x) (h .0)) (retain-none p xs (h .1))
-
-pub retain-perm : {A : Type 0} (p : A → Bool) {xs ys : List A} → Perm xs ys → Perm (retain p xs) (retain p ys)
-unfolding retain
-retain-perm p done = done
-retain-perm p (keep x {xs} {ys} q) = go (p x) (retain-perm p q)
-  where
-    go : (b : Bool) → Perm (retain p xs) (retain p ys) → Perm (if b then x ∷ retain p xs else retain p xs) (if b then x ∷ retain p ys else retain p ys)
-    go true r = keep x r
-    go false r = r
-retain-perm p (flip x y xs) = go (p x) (p y)
-  where
-    go : (a b : Bool) → Perm (if a then x ∷ (if b then y ∷ retain p xs else retain p xs) else (if b then y ∷ retain p xs else retain p xs))
-        (if b then y ∷ (if a then x ∷ retain p xs else retain p xs) else (if a then x ∷ retain p xs else retain p xs))
-    go true true = flip x y (retain p xs)
-    go true false = perm-refl (x ∷ retain p xs)
-    go false true = perm-refl (y ∷ retain p xs)
-    go false false = perm-refl (retain p xs)
-retain-perm p (also q r) = also (retain-perm p q) (retain-perm p r)
 
 -- every pair across two parts
 cross : {A : Type 0} (R : A → A → Type 0) (xs ys : List A) → Pairs R (xs ++ ys) → All (λ y. All (λ x. R x y) xs) ys
@@ -86,10 +57,6 @@ unfolding containsKey any
 keys-in c [] m = absurd (List·Memᴰ·not-nil m)
 keys-in c (x ∷ cs) m = go (List·Memᴰ·cases-cons m) (keys-in c cs)
   where
-    or-right : (a b : Bool) → T b → T (a || b)
-    or-right true b t = tt
-    or-right false b t = t
-
     go : (c ≡ x) ⊎ List·Memᴰ c cs → (List·Memᴰ c cs → T (any (sameKey (cutKey c)) (map cutKey cs))) → T (sameKey (cutKey c) (cutKey x) || any (sameKey (cutKey c)) (map cutKey cs))
     go (inl e) later = rw (is-true (sameKey (cutKey c) (cutKey x)) (subst (λ (y : CutInstance). T (sameKey (cutKey c) (cutKey y))) e (sameKey-refl (cutKey c)))) tt
     go (inr k) later = or-right (sameKey (cutKey c) (cutKey x)) _ (later k)

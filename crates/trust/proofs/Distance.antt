@@ -6,7 +6,7 @@ use lib.Dec.{T, leb, leb→le, le→leb}
 use Rattle.model.specs.declared.Rect.{Rect}
 use Rattle.trust.specs.PieceRules.{kerfApart}
 use Rattle.trust.proofs.Geometry.{Apart, leftOf, rightOf, above, beneath}
-use Rattle.trust.proofs.Prefilter.{or-left, or-right}
+use Rattle.trust.proofs.Truth.{or-left, or-right}
 
 or-split : (a b : Bool) → T (a || b) → T a ⊎ T b
 or-split true b t = inl tt

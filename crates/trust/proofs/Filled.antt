@@ -1,11 +1,11 @@
 -- Every sheet of every candidate has a piece: a bin is opened by an insertion, and a crossover child rebuilds a donor's sheet, which has one.
-use Prim.Native.Nat.{ℕ, zero, suc, _<_}
+use Prim.Native.Nat.{ℕ, _<_}
 use native.Mathlib.Omega.{arith}
 use mathlib.Core.Path.{_≡_, refl, ap, _∙_, subst}
 use mathlib.Core.List.{List, [], _∷_, map}
 use mathlib.Core.Option.{Option, none, some}
 use lib.ListN.{length, length-append}
-use Rattle.lists.specs.Base.{_>>=_, toList, foldl, removeAt}
+use Rattle.lists.specs.Base.{_>>=_, toList, foldl}
 use Rattle.model.specs.declared.BaselineGuillotineHeuristic.{BaselineGuillotineHeuristic}
 use Rattle.model.specs.declared.StockInstance.{StockInstance}
 use Rattle.model.specs.declared.CutInstance.{CutInstance}
@@ -16,12 +16,12 @@ use Rattle.model.specs.Expand.{ProblemInstance}
 use Rattle.model.specs.Search.{SearchNumbers, Seed, initialSeeds, candidateFromSeed, initialPopulation, bestDonorBin, childOf}
 use Rattle.lists.proofs.Perm.{All, all-append}
 use Rattle.lists.proofs.Sums.{length-map, length-mapOption}
-use Rattle.trust.proofs.Placing.{firstBest-all, concatMap-all}
+use Rattle.lists.proofs.Every.{all-any, all-removeAt, concatMap-all}
+use Rattle.trust.proofs.Placing.{firstBest-all}
 use Rattle.trust.proofs.Sheet.{all-inserted}
 use Rattle.trust.proofs.Candidate.{cutsOf, inserted-cuts, insertInBins-placed, takeFirst-opened}
 use Rattle.trust.proofs.Compact.{without-worst}
 use Rattle.trust.proofs.Crossover.{insertions, child-all}
-use Rattle.trust.proofs.Lists.{all-any}
 
 abbrev pub Filled : GuillotineSheet → Type 0
 Filled s = 0 < length (s .placedPieces)
@@ -68,12 +68,6 @@ module _ (kerf : ℕ) (h : BaselineGuillotineHeuristic) where
   reinsert-filled c k = places-filled _ (c .unusedCuts) k
 
 -- ---- compaction
-
-all-removeAt : {A : Type 0} (P : A → Type 0) (i : ℕ) (xs : List A) → All P xs → All P (removeAt i xs)
-unfolding removeAt
-all-removeAt P i [] h = tt
-all-removeAt P zero (x ∷ xs) h = h .1
-all-removeAt P (suc i) (x ∷ xs) h = (h .0, all-removeAt P i xs (h .1))
 
 pub compact-filled : (cuts : List CutInstance) (c : Candidate) → AllFilled c → AllFilled (compactWorstBin cuts c)
 compact-filled cuts c k = without-worst AllFilled cuts c k (λ w removed e f. all-removeAt Filled (w .0) (c .bins) k)

@@ -18,13 +18,13 @@ use Rattle.model.specs.Types.{stockRect, patternCode, flagCode}
 use Rattle.model.specs.Fit.{patternMatches, uprightTest, uprightResult, turningMatters, rotatedTest, rotatedResult, uprightFit, rotatedFit, fitCutInRects}
 use Rattle.model.specs.Sheet.{GuillotineSheet, PlacedPiece, Insertion, Place, newSheet, places, bestPlace, insertAt, tryInsert, rebuild}
 use Rattle.lists.proofs.Perm.{All, all-append}
+use Rattle.lists.proofs.Options.{fold-keeps}
+use Rattle.lists.proofs.Every.{all-any, all-if, map-all, concatMap-all}
+use Rattle.lists.proofs.Booleans.{is-true}
 use Rattle.trust.specs.PieceRules.{liesAs, isFit}
 use Rattle.trust.proofs.Geometry.{Within}
-use Rattle.trust.proofs.Options.{fold-keeps}
-use Rattle.trust.proofs.Placing.{Lies, upright, turned, all-if, firstBest-all, concatMap-all, map-all, at-best}
+use Rattle.trust.proofs.Placing.{Lies, upright, turned, firstBest-all, at-best}
 use Rattle.trust.proofs.Winner.{Legal}
-use Rattle.trust.proofs.Lists.{all-any}
-use Rattle.trust.proofs.Keys.{is-true}
 use Rattle.trust.proofs.Prefilter.{any-mem, fits-upright, fits-turned}
 use Rattle.trust.proofs.Truth.{and-split, and-intro, of-true}
 use Rattle.trust.proofs.RoundTrip.{pieceView}

@@ -10,8 +10,9 @@ use Rattle.model.specs.Candidate.{Candidate, reinsertUnusedFirstFit, compactWor
 use Rattle.model.specs.Expand.{ProblemInstance}
 use Rattle.model.specs.Search.{childOf, children, crossoverPopulation, repairPopulation, compactPopulation, survivalGeneration, generation, runGenerations, selectBestValid}
 use Rattle.lists.proofs.Perm.{perm-sym, sortBy-perm, All, all-map, all-append, all-perm}
-use Rattle.trust.proofs.Placing.{firstBest-all, map-all}
-use Rattle.trust.proofs.Lists.{retain-sub, all-take}
+use Rattle.lists.proofs.Kept.{retain-sub}
+use Rattle.lists.proofs.Every.{all-take, map-all}
+use Rattle.trust.proofs.Placing.{firstBest-all}
 
 module _ (Q : Candidate → Type 0) (inst : ProblemInstance) (row : BaselineGuillotineHeuristic)
     (crossed : (left right : Candidate) → Q left → Q right → All Q (toList (childOf inst row left right)))

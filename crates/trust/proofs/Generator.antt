@@ -1,5 +1,5 @@
 -- The source's generator is the paper's: the value after n + 1 steps from a seed is the paper's value number n + 1.
-use Prim.Native.Nat.{ℕ, zero, suc, _+_, _*_, _%_, _^_}
+use Prim.Native.Nat.{ℕ, zero, suc, _+_, _*_, _^_}
 use native.Mathlib.Nat.{add-assoc, suc-mul, mod-add-mod}
 use mathlib.Core.Path.{_≡_, refl, sym, ap, _∙_}
 use mathlib.Core.List.{[], _∷_, map}

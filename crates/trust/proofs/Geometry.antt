@@ -1,5 +1,5 @@
 -- Rectangles a kerf apart, inside one another, and what a split and a merge do to that.
-use Prim.Native.Nat.{ℕ, _+_, _-_, _≤_, _<_}
+use Prim.Native.Nat.{ℕ, _+_, _≤_, _<_}
 use native.Mathlib.Omega.{arith}
 use mathlib.Core.Path.{_≡_, refl, sym, subst}
 use mathlib.Core.Logic.{_⊎_, inl, inr}
@@ -95,15 +95,20 @@ stacked-apart q s e f g (beneath h) (rightOf k) = rightOf (omega arith)
 stacked-apart q s e f g (beneath h) (above k) = absurd (omega arith)
 stacked-apart q s e f g (beneath h) (beneath k) = beneath (omega arith)
 
+-- the same along the other axis
+abbrev turn : Rect → Rect
+turn r = record { x = r .y; y = r .x; width = r .length; length = r .width }
+
+turn-apart : {kerf : ℕ} (a b : Rect) → Apart kerf a b → Apart kerf (turn a) (turn b)
+turn-apart a b (leftOf h) = above h
+turn-apart a b (rightOf h) = beneath h
+turn-apart a b (above h) = leftOf h
+turn-apart a b (beneath h) = rightOf h
+
 joined-apart : {kerf : ℕ} {a b : Rect} (q : Rect) → Positive q → a .y ≡ b .y → a .length ≡ b .length → a .x + a .width + kerf ≡ b .x
     → Apart kerf q a → Apart kerf q b → Apart kerf q (joined kerf a b)
-joined-apart q s e f g (above h) k = above h
-joined-apart q s e f g (beneath h) k = beneath h
-joined-apart q s e f g (leftOf h) k = leftOf h
-joined-apart q s e f g (rightOf h) (above k) = above (omega arith)
-joined-apart q s e f g (rightOf h) (beneath k) = beneath (omega arith)
-joined-apart q s e f g (rightOf h) (leftOf k) = absurd (omega arith)
-joined-apart q s e f g (rightOf h) (rightOf k) = rightOf (omega arith)
+joined-apart {kerf} {a} {b} q s e f g h k =
+    turn-apart (turn q) (stacked kerf (turn a) (turn b)) (stacked-apart (turn q) (record { wide = s .long; long = s .wide }) e f g (turn-apart q a h) (turn-apart q b k))
 
 pub joins-apart : {kerf : ℕ} {a b m : Rect} (q : Rect) → Positive q → Joins kerf a b m → Apart kerf q a → Apart kerf q b → Apart kerf q m
 joins-apart q s (down e f g i) h k = subst (Apart _ q) (sym i) (stacked-apart q s e f g h k)

@@ -19,11 +19,11 @@ use Rattle.model.specs.Guide.{GuideCut, SliceNode, cut, leaf, free, cutPiece, s
 use Rattle.model.specs.Sheet.{GuillotineSheet, Insertion, Place, splitRects, splitTree, insertAt}
 use Rattle.model.specs.Merge.{mergesAny}
 use Rattle.lists.proofs.Perm.{Perm, also, perm-refl, perm-append-left, perm-append-right, perm-append-comm, perm-middle}
-use Rattle.trust.proofs.Options.{Through, through}
+use Rattle.lists.proofs.Options.{through, Through}
+use Rattle.lists.proofs.Booleans.{is-true}
 use Rattle.trust.proofs.Truth.{and-split}
 use Rattle.trust.proofs.Geometry.{Positive}
 use Rattle.trust.proofs.RectLayout.{Corner}
-use Rattle.trust.proofs.Keys.{is-true}
 
 unfoldable pub freeLeaves : SliceNode → List Rect
 freeLeaves (cut c a b) = freeLeaves a ++ freeLeaves b

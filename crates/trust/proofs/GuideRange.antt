@@ -18,10 +18,11 @@ use Rattle.model.specs.Sheet.{GuillotineSheet, Insertion, Place, insertAt}
 use Rattle.model.specs.Refusal.{mostInstances}
 use Rattle.model.specs.Plan.{preorder, nodesOf}
 use Rattle.lists.proofs.Perm.{All, all-append, all-left, all-right}
+use Rattle.lists.proofs.Every.{all-if}
 use Rattle.trust.proofs.Truth.{or-false-split}
 use Rattle.trust.proofs.Geometry.{Positive, Within, within-trans}
 use Rattle.trust.proofs.RectLayout.{Corner}
-use Rattle.trust.proofs.Placing.{all-if, Good}
+use Rattle.trust.proofs.Placing.{Good}
 use Rattle.trust.proofs.Guide.{firstPart, secondPart, crossing, over, before, behind, cut-twice, room, crossing-room, guideCutOf, Grafted, atLeaf, inFirst, inSecond, regrown}
 use Rattle.trust.proofs.Ranges.{PanelRange}
 

@@ -1,5 +1,5 @@
 -- A sheet's guide along its making: there exactly if no insertion merged, and then its leaves are exactly the pieces and the waste.
-use Prim.Native.Nat.{ℕ, zero, suc, _+_, _<_}
+use Prim.Native.Nat.{ℕ, zero, suc, _<_}
 use mathlib.Core.Path.{_≡_, refl, sym, ap, _∙_, subst}
 use mathlib.Core.Bool.{Bool, true, false, _||_, or-assoc, or-false, true≢false}
 use mathlib.Core.List.{List, [], _∷_, _++_, map, List·Memᴰ, List·Memᴰ·head}
@@ -17,7 +17,7 @@ use Rattle.model.specs.Sheet.{GuillotineSheet, PlacedPiece, Insertion, Place, n
 use Rattle.lists.proofs.Perm.{Perm, keep, also, perm-refl, perm-sym, perm-append-left, perm-append-right, perm-append-comm, perm-cancel, mem-perm, swapRemove-out, All}
 use Rattle.trust.specs.GuideRules.{mergedFrom}
 use Rattle.lists.proofs.Sums.{map-append}
-use Rattle.trust.proofs.Options.{through}
+use Rattle.lists.proofs.Options.{through}
 use Rattle.trust.proofs.Placing.{Good, bestPlace-good, at-best}
 use Rattle.trust.proofs.Sheet.{lies-positive}
 use Rattle.trust.proofs.Guide.{freeLeaves, pieceLeaves, Replaced, grafted, replaced, replace-present, subtree}

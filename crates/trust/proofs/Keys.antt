@@ -1,28 +1,18 @@
 -- Cuts found by their keys, in a catalogue whose keys are distinct.
-use Prim.Native.Nat.{ℕ}
-use mathlib.Core.Path.{_≡_, refl, sym, ap, _∙_, subst}
+use mathlib.Core.Path.{_≡_, refl, sym, ap, subst}
 use mathlib.Core.Logic.{_⊎_, inl, inr}
-use mathlib.Core.Bool.{Bool, true, false, not, _||_}
-use mathlib.Core.List.{List, [], _∷_, _++_, map, List·Memᴰ, List·Memᴰ·cases-cons, List·Memᴰ·not-nil}
+use mathlib.Core.List.{List, [], _∷_, map, List·Memᴰ, List·Memᴰ·cases-cons, List·Memᴰ·not-nil}
 use mathlib.Core.Option.{Option, none, some}
-use lib.Dec.{T, T-not}
-use Rattle.lists.specs.Base.{if_then_else_, _>>=_, _<|>_, any, retain, find, mapOption, concatMap}
+use lib.Dec.{T}
+use Rattle.lists.specs.Base.{if_then_else_, _>>=_, _<|>_, find, mapOption}
 use Rattle.model.specs.declared.CutInstance.{CutInstance}
 use Rattle.model.specs.declared.InstanceKey.{InstanceKey}
 use Rattle.model.specs.Types.{cutKey, sameKey}
 use Rattle.model.specs.Sheet.{GuillotineSheet, PlacedPiece, sheetKeys, makingOf}
-use Rattle.model.specs.Candidate.{containsKey, cutForKey, cutsForKeys}
-use Rattle.lists.proofs.Perm.{Perm, done, keep, flip, also, perm-refl, perm-sym, perm-append-left, perm-middle, All, Pairs, all-map, all-left, all-right, pairs-perm, in-all}
-use Rattle.trust.proofs.Candidate.{cutsOf, Differ, Distinct, sameKey-refl, retain-all}
-
--- a test that is known
-pub is-true : (b : Bool) → T b → b ≡ true
-is-true true t = refl
-is-true false t = absurd t
-
-pub is-false : (b : Bool) → T (not b) → b ≡ false
-is-false true t = absurd t
-is-false false t = refl
+use Rattle.model.specs.Candidate.{cutForKey, cutsForKeys}
+use Rattle.lists.proofs.Perm.{All, in-all}
+use Rattle.lists.proofs.Booleans.{is-true, is-false}
+use Rattle.trust.proofs.Candidate.{cutsOf, Differ, Distinct, sameKey-refl}
 
 pub cutForKey-known : (catalog : List CutInstance) (c : CutInstance) → Distinct catalog → List·Memᴰ c catalog → cutForKey catalog (cutKey c) ≡ some c
 unfolding cutForKey find

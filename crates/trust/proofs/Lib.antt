@@ -1,6 +1,5 @@
 pub mod Truth
 pub mod Lists
-pub mod Options
 pub mod Geometry
 pub mod RectLayout
 pub mod Merging

@@ -1,18 +1,17 @@
 -- The merging of the free rectangles: which pair is merged, and that the rounds keep the layout and come to an end.
-use Prim.Native.Nat.{ℕ, zero, suc, _+_, _-_, _*_, _≤_, _<_}
+use Prim.Native.Nat.{ℕ, zero, suc, _+_, _≤_, _<_}
 use native.Mathlib.Nat.{add-zero}
 use native.Mathlib.Omega.{arith}
-use mathlib.Core.Path.{_≡_, refl, sym, ap, _∙_, subst, subst₂}
+use mathlib.Core.Path.{_≡_, refl, sym, ap, _∙_, subst₂}
 use mathlib.Core.Logic.{_⊎_, inl, inr}
 use mathlib.Core.List.{List, [], _∷_, _++_}
 use mathlib.Core.Option.{Option, none, some, Option·some-injective, Option·none-ne-some}
 use lib.ListN.{length, getD, set, length-set}
-use lib.Seq.{getD-set-other}
-use Rattle.lists.specs.Base.{_<|>_, _>>=_, removeAt, swapRemove}
+use Rattle.lists.specs.Base.{_<|>_, _>>=_, removeAt}
 use Rattle.model.specs.declared.Rect.{Rect}
 use Rattle.model.specs.Types.{noRect}
-use Rattle.model.specs.Merge.{Pair, mergeAdjacentRects, findRight, findPair, firstPair, applyMerge, mergeRounds, mergeFreeRects}
-use Rattle.lists.proofs.Perm.{Perm, keep, flip, also, perm-refl, perm-sym, perm-append-left, perm-middle, removeAt-perm, set-removeAt, length-removeAt, removeAt-set, getD-removeAt, swapRemove-perm, length-perm}
+use Rattle.model.specs.Merge.{Pair, mergeAdjacentRects, findRight, findPair, firstPair, applyMerge, mergeRounds}
+use Rattle.lists.proofs.Perm.{Perm, keep, flip, also, perm-sym, perm-append-left, perm-middle, removeAt-perm, set-removeAt, length-removeAt, removeAt-set, getD-removeAt, swapRemove-perm, length-perm}
 use Rattle.trust.proofs.Geometry.{Joins, merged-joins}
 use Rattle.trust.proofs.RectLayout.{Layout, layout-perm, layout-merge}
 

@@ -26,10 +26,11 @@ use Rattle.model.specs.Refusal.{fileRefusal}
 use Rattle.model.specs.Answer.{prefilter}
 use Rattle.lists.proofs.Perm.{Perm, All, Pairs, all-map, in-all}
 use Rattle.lists.proofs.Sums.{map-append}
+use Rattle.lists.proofs.Every.{map-all, concatMap-all, pairs-each}
 use Rattle.trust.specs.Words.{PieceIn, SheetIn, piecesIn, sheetsIn}
 use Rattle.trust.specs.PieceRules.{keysIn, liesOnce, usesBoard, ofItsSize, onRack, liesAs, isFit, isPanel, hasFit, insideBoard, kerfApart, pairwise, pieceRectsIn, PiecesObey, askedBy, PieceRules}
 use Rattle.trust.proofs.Geometry.{Apart, Within}
-use Rattle.trust.proofs.Placing.{Lies, upright, turned, Fits, fits-all, concatMap-all, map-all}
+use Rattle.trust.proofs.Placing.{Lies, upright, turned, Fits, fits-all}
 use Rattle.trust.proofs.Sheet.{pieceRects}
 use Rattle.trust.proofs.Candidate.{Distinct, sameKey-eq, sameKey-refl}
 use Rattle.trust.proofs.Crossover.{DifferBoards, same-board}
@@ -37,7 +38,7 @@ use Rattle.trust.proofs.Winner.{Legal, Admitted}
 use Rattle.trust.proofs.Checks.{admitted}
 use Rattle.trust.proofs.Prefilter.{Laid, Obeys, no-layout}
 use Rattle.trust.proofs.Distance.{apart-of}
-use Rattle.trust.proofs.Truth.{and-split, pairs-each, all-of, pairs-of}
+use Rattle.trust.proofs.Truth.{and-split, all-of, pairs-of}
 use Rattle.trust.proofs.Once.{once-perm, rest-of}
 
 -- ---- tests that are passed

@@ -13,10 +13,10 @@ use Rattle.model.specs.declared.CutInstance.{CutInstance}
 use Rattle.model.specs.declared.InstanceKey.{InstanceKey}
 use Rattle.model.specs.Types.{cutKey, sameKey}
 use Rattle.lists.proofs.Perm.{Perm, done, keep, also, perm-refl, perm-sym, All, Pairs, all-both, all-perm, map-perm, length-perm, mem-perm, in-all}
-use Rattle.trust.proofs.Placing.{map-all}
+use Rattle.lists.proofs.Every.{map-all}
+use Rattle.lists.proofs.Kept.{retain-none, retain-perm}
+use Rattle.lists.proofs.Booleans.{is-true, is-false}
 use Rattle.trust.proofs.Candidate.{Differ, Distinct, differ-sym, sameKey-refl}
-use Rattle.trust.proofs.Keys.{is-true, is-false}
-use Rattle.trust.proofs.Crossover.{retain-perm, retain-none}
 use Rattle.trust.proofs.Lists.{FirstOf, all-first}
 
 -- ---- how often a key is there

@@ -9,11 +9,10 @@ use lib.Dec.{T, eqb→eq}
 use lib.ListN.{length}
 use Rattle.lists.specs.Base.{if_then_else_, isEmpty, concatMap}
 use Rattle.lists.proofs.Perm.{All}
+use Rattle.lists.proofs.Booleans.{is-true, is-false}
 use Rattle.trust.specs.Words.{NodeIn}
 use Rattle.trust.specs.InLayout.{isCut, subtrees, oneTree}
-use Rattle.trust.proofs.Keys.{is-true, is-false}
-use Rattle.trust.proofs.Prefilter.{or-right}
-use Rattle.trust.proofs.Truth.{of-true}
+use Rattle.trust.proofs.Truth.{of-true, or-right}
 
 pub data Tree : Type 0 where
   fork : NodeIn → Tree → Tree → Tree

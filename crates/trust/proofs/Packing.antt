@@ -1,17 +1,17 @@
 -- Rectangles that lie in a board and are apart have no more area than the board: cells are counted, and each is covered at most once.
 use Prim.Native.Nat.{ℕ, zero, suc, _+_, _-_, _*_, _≤_, _<_, min}
-use native.Mathlib.Nat.{le-refl, le-trans, add-le-add, mul-add, mul-zero, mul-one, one-mul, zero-mul, mul-comm, suc-mul, add-comm}
+use native.Mathlib.Nat.{le-refl, le-trans, add-le-add, mul-add, mul-zero, one-mul, zero-mul, mul-comm, suc-mul}
 use native.Mathlib.Omega.{arith}
-use mathlib.Core.Path.{_≡_, refl, sym, ap, _∙_, subst}
+use mathlib.Core.Path.{_≡_, refl, sym, ap, _∙_}
 use mathlib.Core.Logic.{_⊎_, inl, inr}
-use mathlib.Core.Bool.{Bool, true, false, not, _&&_}
+use mathlib.Core.Bool.{Bool, true, false, _&&_}
 use mathlib.Core.List.{List, [], _∷_, map}
 use lib.Dec.{leb, ltb}
 use borrow.Author.Tests.{leb-true, leb-false, ltb-true, ltb-false}
 use Rattle.lists.specs.Base.{if_then_else_, sum}
 use Rattle.model.specs.declared.Rect.{Rect}
-use Rattle.model.specs.Types.{area, rect}
-use Rattle.lists.proofs.Perm.{All, Pairs, all-map}
+use Rattle.model.specs.Types.{area}
+use Rattle.lists.proofs.Perm.{All, Pairs}
 use Rattle.trust.proofs.Geometry.{Apart, leftOf, rightOf, above, beneath, Within}
 
 -- ---- sums over the numbers below n

@@ -1,14 +1,14 @@
 -- The place that an insertion finds: a free rectangle at its index, with a legal fit at its corner.
-use Prim.Native.Nat.{ℕ, suc, _+_, _≤_, _<_}
+use Prim.Native.Nat.{ℕ, suc, _≤_, _<_}
 use native.Mathlib.Omega.{arith}
 use mathlib.Core.Path.{_≡_, refl, subst}
 use mathlib.Core.Bool.{Bool, true, false, _&&_}
-use mathlib.Core.List.{List, [], _∷_, _++_, map, append-assoc}
+use mathlib.Core.List.{List, [], _∷_, _++_, append-assoc}
 use mathlib.Core.Option.{some, Option·some-injective, Option·none-ne-some}
 use lib.Dec.{T, leb, leb→le}
 use lib.ListN.{length, getD, length-append}
 use lib.Seq.{getD-append-seam}
-use Rattle.lists.specs.Base.{if_then_else_, enumerate, enumerateFrom, keepBest, firstBest, concatMap}
+use Rattle.lists.specs.Base.{if_then_else_, enumerate, enumerateFrom, keepBest, firstBest}
 use Rattle.model.specs.declared.Rect.{Rect}
 use Rattle.model.specs.declared.CutInstance.{CutInstance}
 use Rattle.model.specs.declared.FitResult.{FitResult}
@@ -18,8 +18,9 @@ use Rattle.model.specs.Types.{rect, noRect}
 use Rattle.model.specs.Fit.{patternMatches, rotatePattern, uprightTest, uprightResult, turningMatters, rotatedTest, rotatedResult, uprightFit, rotatedFit, fitCutInRects}
 use Rattle.model.specs.Sheet.{GuillotineSheet, Insertion, Place, places, bestPlace, insertAt, tryInsert}
 use Rattle.lists.proofs.Perm.{All, all-append}
+use Rattle.lists.proofs.Options.{through}
+use Rattle.lists.proofs.Every.{all-if, map-all, concatMap-all}
 use Rattle.trust.proofs.Truth.{and-split}
-use Rattle.trust.proofs.Options.{through}
 use Rattle.trust.proofs.RectLayout.{Corner}
 
 -- ---- a fit
@@ -40,11 +41,6 @@ sides m a b c d t =
     let u = and-split (m && leb a b) (leb c d) t in
     let v = and-split m (leb a b) (u .0) in
     (v .0, leb→le a b (v .1), leb→le c d (u .1))
-
--- one element or none
-pub all-if : {A : Type 0} (P : A → Type 0) (b : Bool) (x : A) → (T b → P x) → All P (if b then x ∷ [] else [])
-all-if P true x h = (h tt, tt)
-all-if P false x h = tt
 
 module _ (cut : CutInstance) (stock : PatternDirection) (free : Rect) where
   upright-fits : All (Fits cut stock free) (uprightFit cut stock free)
@@ -83,15 +79,6 @@ module _ {A : Type 0} (P : A → Type 0) (better : A → A → Bool) where
   unfolding firstBest
   firstBest-all [] x k e = absurd (Option·none-ne-some x e)
   firstBest-all (y ∷ xs) x k e = subst P (Option·some-injective _ _ e) (keepBest-all y xs (k .0) (k .1))
-
-pub concatMap-all : {A B : Type 0} (Q : A → Type 0) (P : B → Type 0) (f : A → List B) → ((x : A) → Q x → All P (f x)) → (xs : List A) → All Q xs → All P (concatMap f xs)
-unfolding concatMap
-concatMap-all Q P f g [] h = tt
-concatMap-all Q P f g (x ∷ xs) h = all-append P (f x) (concatMap f xs) (g x (h .0)) (concatMap-all Q P f g xs (h .1))
-
-pub map-all : {A B : Type 0} (Q : A → Type 0) (P : B → Type 0) (f : A → B) → ((x : A) → Q x → P (f x)) → (xs : List A) → All Q xs → All P (map f xs)
-map-all Q P f g [] h = tt
-map-all Q P f g (x ∷ xs) h = (g x (h .0), map-all Q P f g xs (h .1))
 
 module _ {A : Type 0} (d : A) where
   abbrev pub At : List A → ℕ × A → Type 0

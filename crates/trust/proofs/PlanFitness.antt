@@ -1,6 +1,5 @@
 -- The fitness that a plan states is a number above 0 and at most 1, whatever the file.
-use Prim.Native.Nat.{ℕ, _+_, _*_, _/_, _%_, _^_}
-use native.Mathlib.Omega.{arith}
+use Prim.Native.Nat.{ℕ, _+_, _*_, _^_}
 use mathlib.Core.Path.{_≡_, sym, ap, _∙_, subst}
 use mathlib.Core.List.{List, []}
 use mathlib.Core.Option.{Option·getD}
@@ -16,6 +15,7 @@ use Rattle.model.specs.Expand.{ProblemInstance}
 use Rattle.model.specs.Plan.{planWords}
 use Rattle.model.specs.Answer.{plan, answerWith}
 use Rattle.lists.proofs.Perm.{All}
+use Rattle.lists.proofs.Numbers.{halves}
 use Rattle.trust.proofs.Answer.{instanceOf}
 use Rattle.trust.proofs.Ranges.{Byte, Ranged, ranged}
 use Rattle.trust.proofs.Planned.{plan-admitted, ProperPlan, Planned, noCuts, searchedFor, planned}
@@ -34,9 +34,6 @@ pub record StatedFitness (words : List ℕ) : Type 0 where
 stated : (layout : LayoutKind) (f : Float) (sheets : List GuillotineSheet) → Share f → StatedFitness (planWords layout f sheets)
 unfolding planWords
 stated layout f sheets h = record { value = f; bits = halves (toBits binary64 f); share = h }
-  where
-    halves : (n : ℕ) → n % 2 ^ 32 + 2 ^ 32 * (n / 2 ^ 32) ≡ n
-    halves n = omega arith
 
 one-share : Share one
 unfolding isNan lt le

@@ -16,11 +16,11 @@ use Rattle.model.specs.Sheet.{GuillotineSheet, PlacedPiece, Insertion, newSheet
 use Rattle.model.specs.Plan.{preorder, nodesOf, alongCut, sawLength, useOf, sawOf}
 use Rattle.lists.proofs.Perm.{Perm}
 use Rattle.lists.proofs.Sums.{map-append}
+use Rattle.lists.proofs.Kept.{retain-append}
 use Rattle.trust.specs.Words.{PieceIn, NodeIn, nodeKey}
 use Rattle.trust.specs.InLayout.{isPiece, isWaste}
 use Rattle.trust.specs.PieceRules.{pieceRectsIn}
 use Rattle.trust.specs.GuideRules.{mergedFrom, pieceLeavesIn, wasteLeavesIn, sitsIn, partBefore, partAfter, fillsParts, useIn, sawIn, hasGuide, GuideRules}
-use Rattle.trust.proofs.Crossover.{retain-append}
 use Rattle.trust.proofs.Guide.{firstPart, secondPart, freeLeaves, pieceLeaves}
 use Rattle.trust.proofs.Guided.{pieceEntries, GuideState, voided, present, GuideLeaves}
 use Rattle.trust.proofs.Parts.{InPart, WellCut, freeIn, pieceIn, cutIn, PartsOk}

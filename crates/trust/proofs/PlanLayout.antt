@@ -20,9 +20,9 @@ use Rattle.model.specs.Guide.{SliceNode, cut, leaf, free, cutPiece}
 use Rattle.model.specs.Sheet.{GuillotineSheet, PlacedPiece}
 use Rattle.model.specs.Plan.{preorder, nodesOf, sheetWords, planWords, entryOf, sheetPart}
 use Rattle.lists.proofs.Sums.{map-append}
+use Rattle.lists.proofs.Maps.{concatMap-append}
 use Rattle.trust.specs.Words.{NodeIn, SheetIn, headSize, pieceSize, wasteSize, nodeSize, sheetIn}
 use Rattle.trust.specs.InLayout.{pieceCodes, nodeCodes, oneTree, sheetCodes, bodyInLayout, startWord, lengthWord, bodiesFrom, inLayout, InLayout}
-use Rattle.trust.proofs.Candidate.{concatMap-append}
 use Rattle.trust.proofs.Truth.{and-intro, of-true, map-pass}
 use Rattle.trust.proofs.OneTree.{Tree, fork, tip, nodesOfTree, CutsFork, tree-is-one}
 use Rattle.trust.proofs.RoundTrip.{pieceView, nodeView, sheetView, sheet-length, sheet-read, joined, Entry, bodyStart, entry-of-sheet, contents-inside}

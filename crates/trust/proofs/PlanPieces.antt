@@ -18,20 +18,21 @@ use Rattle.model.specs.Candidate.{Candidate, containsKey, hasDuplicateKeys}
 use Rattle.model.specs.Expand.{ProblemInstance}
 use Rattle.lists.proofs.Perm.{Perm, perm-sym, All, Pairs, all-map, all-both, all-left, all-right, pairs-perm, mem-perm, all-self}
 use Rattle.lists.proofs.Sums.{map-append}
+use Rattle.lists.proofs.Every.{map-all, all-of-map, pairs-left, pairs-each}
+use Rattle.lists.proofs.Booleans.{is-false}
 use Rattle.trust.specs.Words.{PieceIn, SheetIn, piecesIn}
 use Rattle.trust.specs.PieceRules.{keysIn, liesOnce, usesBoard, ofItsSize, onRack, isPanel, hasFit, insideBoard, kerfApart, pairwise, pieceRectsIn, PiecesObey}
 use Rattle.trust.proofs.Geometry.{Apart, Within}
-use Rattle.trust.proofs.Placing.{map-all}
 use Rattle.trust.proofs.Sheet.{pieceRects}
 use Rattle.trust.proofs.Candidate.{cutsOf, placedCuts, boardsOf, Distinct, sameKey-refl}
-use Rattle.trust.proofs.Keys.{is-false, sheetKeys-cuts}
+use Rattle.trust.proofs.Keys.{sheetKeys-cuts}
 use Rattle.trust.proofs.Crossover.{DifferBoards, board-sym}
 use Rattle.trust.proofs.Once.{times, times-perm, own-once}
 use Rattle.trust.proofs.Search.{Won}
 use Rattle.trust.proofs.Winner.{Legal, SheetOk, Admitted}
 use Rattle.trust.proofs.Prefilter.{any-mem}
 use Rattle.trust.proofs.Distance.{apart-passed}
-use Rattle.trust.proofs.Truth.{and-intro, of-true, pairs-left, pairs-each, all-of-map, all-passed, pairs-passed}
+use Rattle.trust.proofs.Truth.{and-intro, of-true, all-passed, pairs-passed}
 use Rattle.trust.proofs.RoundTrip.{pieceView, sheetView}
 use Rattle.trust.proofs.Fitting.{PieceMatters, rebuilt-matters, piece-is-fit}
 

@@ -28,7 +28,7 @@ use Rattle.model.specs.Plan.{words64, rectWords, pieceWords, nodesOf, nodeWords
 use Rattle.model.specs.Answer.{plan, answerWith}
 use Rattle.lists.proofs.Perm.{All, all-map, all-both, all-append}
 use Rattle.lists.proofs.Sums.{sum-most}
-use Rattle.trust.proofs.Placing.{concatMap-all, map-all}
+use Rattle.lists.proofs.Every.{map-all, concatMap-all}
 use Rattle.trust.proofs.Sheet.{pieceRects}
 use Rattle.trust.proofs.Answer.{instanceOf}
 use Rattle.trust.proofs.Ranges.{Byte, BoardRange, PanelRange, Ranged, ranged}

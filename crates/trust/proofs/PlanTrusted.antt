@@ -25,13 +25,13 @@ use Rattle.model.specs.Account.{accountFrom}
 use Rattle.model.specs.Answer.{plan, refused, answer, answerWith, makings}
 use Rattle.model.specs.Outcome.{Outcome, leastWorkspace, searches, cleared, written, tooSmall, outcome}
 use Rattle.lists.proofs.Perm.{All, all-map, all-both, all-right, in-all}
+use Rattle.lists.proofs.Every.{map-all, pairs-each}
 use Rattle.trust.specs.Words.{PieceIn, sheetsIn}
 use Rattle.trust.specs.InLayout.{InLayout}
 use Rattle.trust.specs.PieceRules.{askedBy, insideBoard, kerfApart, pairwise, pieceRectsIn}
 use Rattle.trust.specs.Trusted.{Made, Each, planMakings, TrustedBy, Trusted}
 use Rattle.trust.proofs.Planned.{plan-admitted, empty-plan}
 use Rattle.trust.proofs.Geometry.{Apart}
-use Rattle.trust.proofs.Placing.{map-all}
 use Rattle.trust.proofs.Sheet.{pieceRects, sheetRects}
 use Rattle.trust.proofs.Area.{areas, areas-append}
 use Rattle.trust.proofs.Account.{board-area}
@@ -41,7 +41,7 @@ use Rattle.trust.proofs.Winner.{SheetOk, Admitted}
 use Rattle.trust.proofs.Checks.{admitted}
 use Rattle.trust.proofs.Answer.{FromWinner, not-refused, plan-from-winner}
 use Rattle.trust.proofs.Distance.{apart-passed}
-use Rattle.trust.proofs.Truth.{pairs-each, all-passed, pairs-passed}
+use Rattle.trust.proofs.Truth.{all-passed, pairs-passed}
 use Rattle.trust.proofs.RoundTrip.{pieceView, sheetView, sheets-read}
 use Rattle.trust.proofs.PlanLayout.{plan-in-layout}
 use Rattle.trust.proofs.PlanPieces.{inside-passed, rects-read, OfPanels, of-panels, pieces-obey}

@@ -1,5 +1,5 @@
 -- How large a population grows.
-use Prim.Native.Nat.{ℕ, zero, suc, _+_, _≤_}
+use Prim.Native.Nat.{ℕ, zero, suc, _≤_}
 use native.Mathlib.Nat.{le-trans, min-le-left}
 use mathlib.Core.List.{List}
 use lib.ListN.{length, length-take}

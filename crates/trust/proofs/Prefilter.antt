@@ -20,11 +20,12 @@ use Rattle.model.specs.Expand.{ProblemInstance}
 use Rattle.model.specs.Refusal.{firstThatApplies}
 use Rattle.model.specs.Answer.{prefilter}
 use Rattle.lists.proofs.Perm.{Perm, All, Pairs, all-map, all-append, all-perm, mem-perm, sum-perm, all-self}
-use Rattle.trust.proofs.Truth.{and-intro}
+use Rattle.lists.proofs.Every.{map-all}
+use Rattle.lists.proofs.Booleans.{is-true}
+use Rattle.trust.proofs.Truth.{and-intro, or-left, or-right}
 use Rattle.trust.proofs.Geometry.{Apart, Within}
-use Rattle.trust.proofs.Placing.{Lies, upright, turned, map-all}
+use Rattle.trust.proofs.Placing.{Lies, upright, turned}
 use Rattle.trust.proofs.Sheet.{pieceRects}
-use Rattle.trust.proofs.Keys.{is-true}
 use Rattle.trust.proofs.Choice.{lies-area}
 use Rattle.trust.proofs.Packing.{packed-area}
 use Rattle.trust.proofs.Winner.{Legal}
@@ -124,14 +125,6 @@ unfolding cutFitsStock fitCutInRects uprightFit rotatedFit
 one-fits c s true b e f t = rw e tt
 one-fits c s false true e f t = rw (e, f) tt
 one-fits c s false false e f t = absurd t
-
-pub or-left : (a b : Bool) → T a → T (a || b)
-or-left true b t = tt
-or-left false b t = absurd t
-
-pub or-right : (a b : Bool) → T b → T (a || b)
-or-right true b t = tt
-or-right false b t = t
 
 piece-fits : (s : StockInstance) (p : PlacedPiece) → Legal (s .pattern) p → Within (stockRect s) (p .fit .rect) → T (cutFitsStock (p .by .cut) s)
 piece-fits s p g w = go (g .lies)

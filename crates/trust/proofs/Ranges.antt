@@ -10,17 +10,18 @@ use mathlib.Core.Option.{none}
 use lib.Dec.{eqb, ltb}
 use lib.ListN.{length, take, drop}
 use borrow.Author.Tests.{ltb-false, eqb-true, eq-eqb, not-false}
-use Rattle.lists.specs.Base.{sum, countFrom, range, concatMap, isEmpty}
+use Rattle.lists.specs.Base.{sum, range, concatMap, isEmpty}
 use Rattle.model.specs.declared.StockInstance.{StockInstance}
 use Rattle.model.specs.declared.CutInstance.{CutInstance}
 use Rattle.model.specs.Project.{Piece, Project, littleEndian, number, pieceAt, pieces, projectOf, stockStart, stockLength, cutsStart, cutsLength, recordLength}
 use Rattle.model.specs.Refusal.{RecordRule, mostSide, mostInstances, totalQuantity, largeSide, settingsChecks, stockRule, cutRule, recordChecks, wholeChecks, projectChecks, fileRefusal}
 use Rattle.model.specs.Expand.{ProblemInstance, compareStock, stockInstances, cutInstances, expandProject}
-use Rattle.lists.proofs.Perm.{perm-sym, length-perm, sortBy-perm, All, all-map, all-both, all-left, all-right, all-perm}
+use Rattle.lists.proofs.Perm.{perm-sym, length-perm, sortBy-perm, All, all-both, all-left, all-right, all-perm}
 use Rattle.lists.proofs.Sums.{length-map, length-countFrom, length-counted}
+use Rattle.lists.proofs.Every.{all-drop, map-all, concatMap-all, all-map-any}
+use Rattle.lists.proofs.Counts.{count-below}
 use Rattle.trust.proofs.Truth.{or-false-split}
-use Rattle.trust.proofs.Placing.{concatMap-all, map-all}
-use Rattle.trust.proofs.Checks.{rows, Passed, Rule, records, nonzero, all-map-any, file-passed}
+use Rattle.trust.proofs.Checks.{rows, Passed, Rule, records, nonzero, file-passed}
 
 -- ---- the record
 
@@ -58,11 +59,6 @@ pub record SettingsRange (p : Project) : Type 0 where
 
 abbrev pub Byte : ℕ → Type 0
 Byte b = b < 256
-
-all-drop : {A : Type 0} (P : A → Type 0) (n : ℕ) (xs : List A) → All P xs → All P (drop n xs)
-all-drop P zero xs h = h
-all-drop P (suc n) [] h = tt
-all-drop P (suc n) (x ∷ xs) h = all-drop P n xs (h .1)
 
 littleEndian-lt : (n : ℕ) (bs : List ℕ) → All Byte bs → littleEndian (take n bs) < 256 ^ n
 unfolding littleEndian
@@ -127,11 +123,6 @@ quantities rule f seen count (p ∷ ps) c h =
 
 -- ---- instances
 
-numbers-below : (i n : ℕ) → All (λ k. k < i + n) (countFrom i n)
-unfolding countFrom
-numbers-below i zero = tt
-numbers-below i (suc n) = (omega arith, all-map (λ k. k < suc i + n) (λ k. k < i + suc n) (λ k h. omega arith) (countFrom (suc i) n) (numbers-below (suc i) n))
-
 abbrev PieceRange : Piece → Type 0
 PieceRange p = Checked p × IdRange p
 
@@ -148,11 +139,11 @@ in-range p n h k =
 
 stock-range : (p : Piece) → PieceRange p → All BoardRange (stockInstances p)
 unfolding stockInstances
-stock-range p h = map-all (λ n. n < 0 + p .quantity) BoardRange _ (λ n k. in-range p n h (omega arith)) (range (p .quantity)) (numbers-below 0 (p .quantity))
+stock-range p h = map-all (λ n. n < 0 + p .quantity) BoardRange _ (λ n k. in-range p n h (omega arith)) (range (p .quantity)) (count-below 0 (p .quantity))
 
 cut-range : (p : Piece) → PieceRange p → All PanelRange (cutInstances p)
 unfolding cutInstances
-cut-range p h = map-all (λ n. n < 0 + p .quantity) PanelRange _ (λ n k. in-range p n h (omega arith)) (range (p .quantity)) (numbers-below 0 (p .quantity))
+cut-range p h = map-all (λ n. n < 0 + p .quantity) PanelRange _ (λ n k. in-range p n h (omega arith)) (range (p .quantity)) (count-below 0 (p .quantity))
 
 stock-length : (p : Piece) → length (stockInstances p) ≡ p .quantity
 unfolding stockInstances

@@ -1,19 +1,17 @@
 -- The invariant of a sheet's rectangles, pieces and waste together, and that a split and a merge keep it.
-use Prim.Native.Nat.{ℕ, zero, suc, _+_, _-_, _*_, _≤_, _<_}
+use Prim.Native.Nat.{ℕ, _+_, _-_, _≤_, _<_}
 use native.Mathlib.Omega.{arith}
-use mathlib.Core.Path.{_≡_, refl, sym, ap, _∙_, subst}
-use mathlib.Core.Logic.{_⊎_, inl, inr}
+use mathlib.Core.Path.{_≡_}
 use mathlib.Core.Bool.{Bool, true, false}
 use mathlib.Core.List.{List, [], _∷_, _++_}
-use mathlib.Core.Option.{Option, none, some}
 use lib.Dec.{T, ltb, ltb→lt}
 use Rattle.lists.specs.Base.{if_then_else_}
 use Rattle.model.specs.declared.Rect.{Rect}
 use Rattle.model.specs.declared.Direction.{Direction}
 use Rattle.model.specs.Types.{rect}
-use Rattle.model.specs.Split.{bottomRemainder, rightRemainder, splitFreeRect, bottomWidth, rightLength}
-use Rattle.lists.proofs.Perm.{Perm, All, Pairs, all-map, all-both, all-append, all-perm, pairs-perm}
-use Rattle.trust.proofs.Geometry.{Apart, leftOf, rightOf, above, beneath, apart-sym, Positive, Within, within-trans, within-apart, Joins, joins-apart, joins-within, joins-positive}
+use Rattle.model.specs.Split.{bottomRemainder, rightRemainder, splitFreeRect}
+use Rattle.lists.proofs.Perm.{Perm, All, Pairs, all-map, all-append, all-perm, pairs-perm}
+use Rattle.trust.proofs.Geometry.{Apart, leftOf, above, beneath, apart-sym, Positive, Within, within-trans, within-apart, Joins, joins-apart, joins-within, joins-positive}
 
 pub record Layout (kerf : ℕ) (board : Rect) (rs : List Rect) : Type 0 where
   pub positive : All Positive rs

@@ -19,7 +19,7 @@ use Rattle.model.specs.Guide.{SliceNode, cut, leaf, free, cutPiece}
 use Rattle.model.specs.Sheet.{GuillotineSheet, PlacedPiece}
 use Rattle.model.specs.Plan.{words64, rectWords, pieceWords, nodesOf, nodeWords, useOf, sawOf, sheetWords, contentsFrom, planWords, entryOf, partOf, sheetPart}
 use Rattle.lists.proofs.Sums.{length-concatMap, map-append}
-use Rattle.trust.proofs.Candidate.{concatMap-append}
+use Rattle.lists.proofs.Maps.{concatMap-append}
 use Rattle.trust.specs.InLayout.{startWord, lengthWord}
 use Rattle.trust.specs.Words.{PieceIn, NodeIn, SheetIn, rows, headSize, pieceSize, wasteSize, nodeSize, keyAt, rectAt, pieceIn, wasteIn, nodeIn, sheetIn, sheetCount, fitnessBits, layoutWord, sheetsIn}
 

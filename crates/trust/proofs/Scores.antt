@@ -18,9 +18,10 @@ use Rattle.model.specs.Candidate.{Candidate, CandidateScore, containsKey, place
 use Rattle.model.specs.Expand.{ProblemInstance}
 use Rattle.lists.proofs.Perm.{pairs-perm, perm-sym, All, all-map, mem-perm, all-self}
 use Rattle.lists.proofs.Sums.{map-append, sum-append}
-use Rattle.trust.proofs.Truth.{pairs-left}
+use Rattle.lists.proofs.Every.{pairs-left}
+use Rattle.lists.proofs.Booleans.{is-false}
 use Rattle.trust.proofs.Candidate.{cutsOf, placedCuts, Differ, Distinct, differ-sym}
-use Rattle.trust.proofs.Keys.{is-false, cutsForKeys-known, sheetKeys-cuts}
+use Rattle.trust.proofs.Keys.{cutsForKeys-known, sheetKeys-cuts}
 use Rattle.trust.proofs.Crossover.{keys-out}
 use Rattle.trust.proofs.Choice.{lies-area}
 use Rattle.trust.proofs.Winner.{Legal, Admitted}

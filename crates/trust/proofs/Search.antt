@@ -19,9 +19,10 @@ use Rattle.model.specs.Candidate.{Candidate, newCandidate, cutsForKeys, reinser
 use Rattle.model.specs.Expand.{ProblemInstance, compareCut, sortedCutOrder, shuffleFrom, shuffleCutOrder}
 use Rattle.model.specs.Search.{SearchNumbers, Seed, defaultHeuristic, otherHeuristics, sortedSeed, variantSeeds, shuffledSeed, initialSeeds, candidateFromSeed, initialPopulation, bestDonorBin, childOf, runGenerations, winner}
 use Rattle.lists.proofs.Perm.{Perm, also, perm-refl, perm-sym, All, Pairs, all-map, all-append, mem-perm, length-perm, map-perm, swap-perm, sortBy-perm, perm-map-inv, all-self}
-use Rattle.trust.proofs.Lists.{all-any, FirstOf, all-first, empty-nil, first-of-three}
+use Rattle.lists.proofs.Every.{all-any, map-all, concatMap-all}
+use Rattle.trust.proofs.Lists.{FirstOf, all-first, empty-nil, first-of-three}
 use Rattle.trust.proofs.Generations.{generations-all, best-all}
-use Rattle.trust.proofs.Placing.{firstBest-all, concatMap-all, map-all}
+use Rattle.trust.proofs.Placing.{firstBest-all}
 use Rattle.trust.proofs.Candidate.{placedCuts, boardsOf, Distinct, Kept, places-kept, reinsert-kept}
 use Rattle.trust.proofs.Keys.{cutsForKeys-known}
 use Rattle.trust.proofs.Compact.{compact-kept}

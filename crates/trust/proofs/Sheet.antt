@@ -1,5 +1,5 @@
 -- A sheet's layout, from the bare board through every insertion; and that a sheet is rebuilt from its making.
-use Prim.Native.Nat.{ℕ, _+_, _<_}
+use Prim.Native.Nat.{ℕ, _<_}
 use native.Mathlib.Omega.{arith}
 use mathlib.Core.Path.{_≡_, refl, sym, ap, _∙_, subst, subst₂}
 use mathlib.Core.List.{List, [], _∷_, _++_, map, append-nil, append-assoc}
@@ -16,7 +16,7 @@ use Rattle.model.specs.Merge.{mergeFreeRects}
 use Rattle.model.specs.Sheet.{GuillotineSheet, PlacedPiece, Insertion, Place, newSheet, splitRects, insertAt, tryInsert, rebuild, makingOf}
 use Rattle.lists.proofs.Perm.{Perm, keep, also, perm-sym, perm-append-left, perm-append-comm, perm-middle, swapRemove-out}
 use Rattle.lists.proofs.Sums.{map-append}
-use Rattle.trust.proofs.Options.{through, fold-append}
+use Rattle.lists.proofs.Options.{fold-append, through}
 use Rattle.trust.proofs.Geometry.{Positive}
 use Rattle.trust.proofs.RectLayout.{Layout, layout-perm, layout-replace, split-layout}
 use Rattle.trust.proofs.Merging.{mergeRounds-layout}

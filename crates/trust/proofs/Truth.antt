@@ -1,10 +1,10 @@
 -- Tests that are passed, of two and over lists: from what holds of each element to what the test of the whole says, and back.
 use mathlib.Core.Path.{_≡_, refl, sym, subst}
 use mathlib.Core.Bool.{Bool, true, false, _&&_, _||_, true≢false}
-use mathlib.Core.List.{List, [], _∷_, _++_, map}
+use mathlib.Core.List.{List, [], _∷_, map}
 use lib.Dec.{T}
 use Rattle.lists.specs.Base.{all}
-use Rattle.lists.proofs.Perm.{All, Pairs, all-map, all-left}
+use Rattle.lists.proofs.Perm.{All, Pairs}
 use Rattle.trust.specs.PieceRules.{pairwise}
 
 pub of-true : {b : Bool} → b ≡ true → T b
@@ -22,17 +22,13 @@ pub or-false-split : (p q : Bool) → (p || q) ≡ false → (p ≡ false) × (q
 or-false-split true q e = absurd (true≢false e)
 or-false-split false q e = (refl, e)
 
-pub pairs-left : {A : Type 0} (R : A → A → Type 0) (xs ys : List A) → Pairs R (xs ++ ys) → Pairs R xs
-pairs-left R [] ys h = tt
-pairs-left R (x ∷ xs) ys h = (all-left (R x) xs ys (h .0), pairs-left R xs ys (h .1))
+pub or-left : (a b : Bool) → T a → T (a || b)
+or-left true b t = tt
+or-left false b t = absurd t
 
-pub pairs-each : {A : Type 0} (R S : A → A → Type 0) → ((x y : A) → R x y → S x y) → (xs : List A) → Pairs R xs → Pairs S xs
-pairs-each R S f [] h = tt
-pairs-each R S f (x ∷ xs) h = (all-map (R x) (S x) (f x) xs (h .0), pairs-each R S f xs (h .1))
-
-pub all-of-map : {A B : Type 0} (P : B → Type 0) (f : A → B) (xs : List A) → All P (map f xs) → All (λ x. P (f x)) xs
-all-of-map P f [] h = tt
-all-of-map P f (x ∷ xs) h = (h .0, all-of-map P f xs (h .1))
+pub or-right : (a b : Bool) → T b → T (a || b)
+or-right true b t = tt
+or-right false b t = t
 
 module _ {A : Type 0} (p : A → Bool) where
   pub all-passed : (xs : List A) → All (λ x. T (p x)) xs → T (all p xs)

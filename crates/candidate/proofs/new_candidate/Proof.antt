@@ -3,8 +3,8 @@ use Prim.Native.Nat.{ℕ, _-_, _≤_}
 use native.Mathlib.Omega.{arith}
 use mathlib.Core.Path.{_≡_, sym, ap, _∙_}
 use Rattle.lists.specs.Base.{countFrom, range}
+use Rattle.lists.proofs.Counts.{range-more, range-all}
 use Rattle.candidate.specs.Moves.{newWords}
-use Rattle.candidate.proofs.Lists.{range-more, range-all}
 use lib.ListN.{length, take, replicate}
 use borrow.Author.Needs.{needs}
 use Rattle.candidate.proofs.new_candidate.Statement.{statement}

@@ -1,9 +1,8 @@
 -- The loop's invariant: the boards between the index and i are moved down by one.
-use Prim.Native.Nat.{ℕ, _+_, _-_, _≤_, _<_}
+use Prim.Native.Nat.{_-_, _≤_, _<_}
 use native.Mathlib.Omega.{arith}
-use mathlib.Core.Path.{_≡_, refl, sym, ap, _∙_}
-use mathlib.Core.List.{List}
-use lib.ListN.{length, length-set}
+use mathlib.Core.Path.{_≡_, ap, _∙_}
+use lib.ListN.{length}
 use Rattle.compaction.proofs.Shifted.{shifted, shifted-none, shifted-turn, shifted-all}
 use borrow.Author.Needs.{needs}
 use Rattle.compaction.proofs.return_stock.Statement.{statement}

@@ -1,10 +1,9 @@
 -- The loop's invariant: the insertions so far, sorted out.
-use Prim.Native.Nat.{ℕ, _+_, _-_, _≤_, _<_}
+use Prim.Native.Nat.{_+_, _-_, _≤_}
 use native.Mathlib.Omega.{arith}
-use mathlib.Core.Path.{_≡_, refl, sym, ap, _∙_, subst}
+use mathlib.Core.Path.{_≡_, sym, _∙_}
 use mathlib.Core.Logic.{⊎-elim}
-use mathlib.Core.List.{List}
-use lib.ListN.{length, getD}
+use lib.ListN.{length}
 use Rattle.compaction.proofs.Apart.{Sorted, sorted-same, sorted-none, sorted-out, sorted-kept, sorted-all}
 use borrow.Author.Needs.{needs}
 use Rattle.compaction.proofs.take_apart.Statement.{statement}

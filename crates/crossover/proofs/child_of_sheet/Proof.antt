@@ -1,5 +1,5 @@
 -- `crossover::child_of_sheet` meets its contract.
-use Prim.Native.Nat.{ℕ, _+_, _≤_, _<_}
+use Prim.Native.Nat.{ℕ}
 use native.Mathlib.Omega.{arith}
 use mathlib.Core.Path.{_≡_, sym, ap, _∙_, subst}
 use mathlib.Core.List.{List, []}
@@ -14,7 +14,6 @@ use Rattle.candidate.specs.Stands.{instanceIn, placedWords, candidateIn, Stands
 use Rattle.candidate.proofs.Instances.{cut-count}
 use Rattle.candidate.proofs.Standing.{few-placed}
 use Rattle.donor.specs.Donated.{withInsertions, donated, childWords}
-use Rattle.crossover.specs.Children.{IsChild}
 use Rattle.crossover.proofs.Answers.{no-child, one-child, index-most, board-most, index-found, made-few, made-rebuildable, answer-none, answer-some, sheet-few, child-is}
 use borrow.Author.Needs.{needs}
 use Rattle.crossover.proofs.child_of_sheet.Statement.{statement}

@@ -1,5 +1,5 @@
 -- `crossover::child_sheet` meets its contract.
-use mathlib.Core.Path.{_≡_, ap, _∙_}
+use mathlib.Core.Path.{ap, _∙_}
 use Prim.Native.Nat.{ℕ}
 use Rattle.candidate.specs.Moves.{movedUp}
 use Rattle.crossover.specs.Children.{sheetOf}

@@ -1,7 +1,6 @@
 -- `crossover::crossover_child_from_donor_bin` meets its contract.
 use native.Mathlib.Omega.{arith}
-use mathlib.Core.Path.{_≡_, refl, sym, ap, _∙_}
-use mathlib.Core.List.{List, []}
+use mathlib.Core.Path.{refl}
 use Rattle.model.specs.Expand.{ProblemInstance}
 use Rattle.model.specs.Search.{childOf}
 use Rattle.candidate.specs.Stands.{instanceIn, candidateIn}

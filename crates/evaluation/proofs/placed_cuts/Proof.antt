@@ -1,12 +1,12 @@
 -- The loop's invariant: the cuts of the insertions so far.
 use Prim.Native.Nat.{ℕ, _-_, _≤_}
 use native.Mathlib.Omega.{arith}
-use mathlib.Core.Path.{_≡_, refl, sym, ap, _∙_}
+use mathlib.Core.Path.{_≡_}
 use mathlib.Core.List.{List, map}
-use lib.ListN.{length, getD, take, length-set, length-replicate}
+use lib.ListN.{length, take}
 use Rattle.candidate.specs.Entries.{cutOf}
-use Rattle.evaluation.proofs.Walks.{filled-more}
 use borrow.Author.Needs.{needs}
+use Rattle.lists.proofs.Arrays.{filled-more}
 use Rattle.evaluation.proofs.placed_cuts.Statement.{statement}
 use Rattle.evaluation.proofs.placed_cuts.Tie as tie
 

@@ -1,16 +1,15 @@
 -- The loop's invariant: the areas of the insertions so far, summed up by their boards.
 use Prim.Native.Nat.{ℕ, _-_, _≤_}
 use native.Mathlib.Omega.{arith}
-use mathlib.Core.Path.{_≡_, refl, sym, ap, ap₂, _∙_}
+use mathlib.Core.Path.{_≡_, ap, _∙_}
 use mathlib.Core.List.{List}
 use lib.ListN.{length, getD, take, replicate, length-replicate, getD-replicate}
 use Rattle.model.specs.Types.{cutArea}
 use Rattle.orders.specs.Rows.{cutAt}
-use Rattle.candidate.specs.Entries.{boardOf, cutOf}
-use Rattle.candidate.proofs.Lists.{all-get}
 use Rattle.evaluation.specs.OnSheets.{wordArea, InTables}
 use Rattle.evaluation.proofs.OnBoards.{Summed, summed-none, summed-most, summed-more, summed-all}
 use borrow.Author.Needs.{needs}
+use Rattle.lists.proofs.Every.{all-get}
 use Rattle.evaluation.proofs.placed_on_boards.Statement.{statement}
 use Rattle.evaluation.proofs.placed_on_boards.Tie as tie
 

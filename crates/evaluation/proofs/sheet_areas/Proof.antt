@@ -1,16 +1,15 @@
 -- The loop's invariant: both areas of the sheets so far.
-use Prim.Native.Nat.{ℕ, _+_, _-_, _≤_, _<_}
+use Prim.Native.Nat.{ℕ, _-_, _≤_}
 use native.Mathlib.Omega.{arith}
-use mathlib.Core.Path.{_≡_, refl, sym, ap, _∙_, subst}
+use mathlib.Core.Path.{_≡_, refl, sym, ap, _∙_}
 use mathlib.Core.List.{List, [], map}
 use lib.ListN.{length, getD, take}
 use lib.Seq.{length-take-le}
 use Rattle.model.specs.Types.{stockArea}
 use Rattle.orders.specs.Rows.{stockAt}
-use Rattle.candidate.specs.Stands.{placedWords}
-use Rattle.evaluation.proofs.Walks.{filled-more}
-use Rattle.evaluation.proofs.Sheets.{few-sheets, few-insertions, sheet-known, words-known, words-area, areas-of}
+use Rattle.evaluation.proofs.Sheets.{few-insertions, sheet-known, words-known, words-area, areas-of}
 use borrow.Author.Needs.{needs}
+use Rattle.lists.proofs.Arrays.{filled-more}
 use Rattle.evaluation.proofs.sheet_areas.Statement.{statement}
 use Rattle.evaluation.proofs.sheet_areas.Tie as tie
 

@@ -1,11 +1,11 @@
 -- The loop's invariant: what is left, added to the sum so far, gives the whole sum.
 use Prim.Native.Nat.{ℕ, _+_, _-_, _≤_}
 use native.Mathlib.Omega.{arith}
-use mathlib.Core.Path.{_≡_, refl, sym, _∙_}
+use mathlib.Core.Path.{_≡_}
 use mathlib.Core.List.{List}
 use lib.ListN.{length, drop}
 use Rattle.lists.specs.Base.{sum}
-use Rattle.evaluation.proofs.Walks.{sum-step, sum-end}
+use Rattle.lists.proofs.Arrays.{sum-step, sum-end}
 use borrow.Author.Needs.{needs}
 use Rattle.evaluation.proofs.sum_areas.Statement.{statement}
 use Rattle.evaluation.proofs.sum_areas.Tie as tie

@@ -8,9 +8,10 @@ use lib.Ieee.{Float, binary64, add, mul, div, ofBits}
 use borrow.Author.Needs.{needs}
 use denote.Ref.{now}
 use Rattle.lists.specs.Base.{sum}
+use Rattle.lists.proofs.Arrays.{first-sum-step, first-sum-end}
 use Rattle.model.specs.Fitness.{weight, positiveZero}
 use Rattle.fitness.specs.Areas.{weightedShare, addShares}
-use Rattle.fitness.proofs.Shares.{sum-step, sum-end, shares-step, shares-end, fitness-none, fitness-some}
+use Rattle.fitness.proofs.Shares.{shares-step, shares-end, fitness-none, fitness-some}
 use Rattle.fitness.proofs.fitness.Statement.{statement}
 use Rattle.fitness.proofs.fitness.Tie as tie
 
@@ -49,7 +50,7 @@ add-total : tie.Need-add-total Inv-loop μ-loop
 add-total c =
     let s = c .before .before .before .before .before .before .before .before in
     let a : List ℕ = s .args .areas .now in
-    omega (arith, sum-step a (s .args .n) (c .before .before .before .before .before .loop .i) (c .before .before .before .before .loop-test .taken) (s .pre .1))
+    omega (arith, first-sum-step a (s .args .n) (c .before .before .before .before .before .loop .i) (c .before .before .before .before .loop-test .taken) (s .pre .1))
 
 add-i : tie.Need-add-i Inv-loop μ-loop
 add-i c = search needs
@@ -67,7 +68,7 @@ loop-again c =
     let n = s .args .n in
     let here = c .before .before .before .before .loop-test .taken in (
       omega arith,
-      omega (arith, l .inv .1, sum-step a n (l .i) here (s .pre .1)),
+      omega (arith, l .inv .1, first-sum-step a n (l .i) here (s .pre .1)),
       ap₂ (λ (x y : Float). addShares (add binary64 (l .weighted) (mul binary64 x y)) (drop (l .i + 1) (take n p)) (drop (l .i + 1) (take n a))) (c .before .sheet-fitness .ensures) (c .area-as-fitness-weight .ensures)
           ∙ shares-step p a n (l .i) (s .pre .0) (s .pre .1) (l .weighted) here
           ∙ l .inv .2,
@@ -81,7 +82,7 @@ returns c =
     let p : List ℕ = s .args .placed .now in
     let a : List ℕ = s .args .areas .now in
     let n = s .args .n in
-    fitness-none (take n p) (take n a) (omega (arith, l .inv .1, sum-end a n (l .i) (c .before .loop-test .left) (s .pre .1)))
+    fitness-none (take n p) (take n a) (omega (arith, l .inv .1, first-sum-end a n (l .i) (c .before .loop-test .left)))
 
 area-as-fitness-weight-requires-2 : tie.Need-area-as-fitness-weight-requires-2 Inv-loop μ-loop
 area-as-fitness-weight-requires-2 c κs = search needs
@@ -94,7 +95,7 @@ returns-2 c =
     let a : List ℕ = s .args .areas .now in
     let n = s .args .n in
     let done = c .before .before .loop-test .left in
-    let whole : l .total ≡ sum (take n a) = omega (arith, l .inv .1, sum-end a n (l .i) done (s .pre .1)) in
+    let whole : l .total ≡ sum (take n a) = omega (arith, l .inv .1, first-sum-end a n (l .i) done) in
     ap₂ (div binary64) (shares-end p a n (l .i) (s .pre .0) (s .pre .1) (l .weighted) done ∙ l .inv .2) (c .area-as-fitness-weight2 .ensures ∙ ap weight whole)
     ∙ fitness-some (take n p) (take n a) (λ e. c .before .if1 .left (whole ∙ e))
 

@@ -1,11 +1,11 @@
 -- `fits::area` meets its contract: a product of two u32 fits u64.
 use borrow.Author.Needs.{needs}
-use Rattle.fits.proofs.Product.{below}
+use Rattle.lists.proofs.Numbers.{product-below}
 use Rattle.fits.proofs.area.Statement.{statement}
 use Rattle.fits.proofs.area.Tie as tie
 
 mul-result : tie.Need-mul-result
-mul-result c = record { fits = below 32 (search needs) (search needs) }
+mul-result c = record { fits = product-below 32 (search needs) (search needs) }
 
 returns : tie.Need-returns
 returns c = search needs

@@ -7,6 +7,7 @@ use native.Mathlib.Omega.{arith}
 use lib.ListN.{length, take, drop, getD}
 use borrow.Author.Needs.{needs}
 use Rattle.lists.specs.Base.{_<|>_}
+use Rattle.lists.proofs.Maps.{counted}
 use Rattle.model.specs.Merge.{mergeAdjacentRects, findRight, findPair, firstPair}
 use Rattle.model.specs.Types.{noRect}
 use Rattle.model.specs.declared.Rect.{Rect}
@@ -14,7 +15,6 @@ use Rattle.free_rects.specs.Merging.{mergedOf, pairOf}
 use Rattle.free_rects.specs.Bounds.{Small}
 use Rattle.free_rects.specs.declared.FoundPair.the-variants.{Nothing}
 use Rattle.free_rects.proofs.Scan.{all-at, row-start, row-fresh, row-skip, row-hit, row-end, pair-end}
-use Rattle.free_rects.proofs.Arrays.{counted}
 use Rattle.free_rects.proofs.find_pair.Statement.{statement}
 use Rattle.free_rects.proofs.find_pair.Tie as tie
 

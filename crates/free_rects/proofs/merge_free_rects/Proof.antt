@@ -6,12 +6,12 @@ use Prim.Native.Nat.{suc, _<_}
 use native.Mathlib.Omega.{arith}
 use lib.ListN.{length}
 use borrow.Author.Needs.{needs}
+use Rattle.lists.proofs.Maps.{counted}
 use Rattle.model.specs.Merge.{Pair, firstPair, mergeRounds, mergesAny}
 use Rattle.free_rects.specs.Merging.{pairOf, Scannable}
 use Rattle.free_rects.specs.FreeList.{rectsOf}
 use Rattle.free_rects.proofs.Rounds.{Turn, found, turn, rounds-on, flag-on, merged-all}
 use Rattle.free_rects.proofs.Splits.{length-rects}
-use Rattle.free_rects.proofs.Arrays.{counted}
 use Rattle.free_rects.proofs.merge_free_rects.Statement.{statement}
 use Rattle.free_rects.proofs.merge_free_rects.Tie as tie
 

@@ -5,7 +5,8 @@ use native.Mathlib.Omega.{arith}
 use lib.Seq.{length-take-le}
 use lib.ListN.{length, length-append}
 use borrow.Author.Needs.{needs}
-use Rattle.free_rects.proofs.Arrays.{take-push, counted}
+use Rattle.lists.proofs.Maps.{counted}
+use Rattle.lists.proofs.Arrays.{take-push}
 use Rattle.free_rects.proofs.push.Statement.{statement}
 use Rattle.free_rects.proofs.push.Tie as tie
 

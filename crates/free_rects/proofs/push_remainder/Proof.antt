@@ -3,8 +3,8 @@ use mathlib.Core.Path.{_≡_}
 use native.Mathlib.Omega.{arith}
 use lib.ListN.{length}
 use borrow.Author.Needs.{needs}
+use Rattle.lists.proofs.Maps.{counted}
 use Rattle.free_rects.proofs.Splits.{holds-none}
-use Rattle.free_rects.proofs.Arrays.{counted}
 use Rattle.free_rects.proofs.push_remainder.Statement.{statement}
 use Rattle.free_rects.proofs.push_remainder.Tie as tie
 

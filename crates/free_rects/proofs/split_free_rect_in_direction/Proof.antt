@@ -3,9 +3,9 @@ use mathlib.Core.Path.{_≡_}
 use native.Mathlib.Omega.{arith}
 use lib.ListN.{length}
 use borrow.Author.Needs.{needs}
+use Rattle.lists.proofs.Maps.{counted}
 use Rattle.model.specs.Split.{splitFreeRect}
 use Rattle.free_rects.proofs.Splits.{remainder-one, pushed-count, holds-then}
-use Rattle.free_rects.proofs.Arrays.{counted}
 use Rattle.free_rects.proofs.split_free_rect_in_direction.Statement.{statement}
 use Rattle.free_rects.proofs.split_free_rect_in_direction.Tie as tie
 

@@ -5,8 +5,9 @@ use native.Mathlib.Omega.{arith}
 use lib.Seq.{length-take-le}
 use lib.ListN.{length, take}
 use borrow.Author.Needs.{needs}
+use Rattle.lists.proofs.Maps.{counted}
+use Rattle.lists.proofs.Arrays.{swap-first, swap-length}
 use Rattle.model.specs.Types.{noRect}
-use Rattle.free_rects.proofs.Arrays.{swap-first, swap-length, counted}
 use Rattle.free_rects.proofs.swap_remove.Statement.{statement}
 use Rattle.free_rects.proofs.swap_remove.Tie as tie
 

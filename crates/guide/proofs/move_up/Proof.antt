@@ -4,8 +4,8 @@ use mathlib.Core.Path.{_≡_, refl, ap, _∙_}
 use native.Mathlib.Omega.{arith}
 use borrow.Author.Needs.{needs}
 use lib.ListN.{length, length-set}
-use Rattle.guide.specs.Lists.{part, patch}
-use Rattle.guide.proofs.Lists.{moved-none, moved-step}
+use Rattle.lists.specs.Parts.{part, patch}
+use Rattle.lists.proofs.Parts.{moved-step, moved-none}
 use Rattle.guide.proofs.move_up.Statement.{statement}
 use Rattle.guide.proofs.move_up.Tie as tie
 

@@ -2,7 +2,7 @@
 use Prim.Native.Nat.{_*_}
 use native.Mathlib.Omega.{arith}
 use borrow.Author.Needs.{needs}
-use Rattle.guide.proofs.Lists.{patch-nil}
+use Rattle.lists.proofs.Parts.{patch-nil}
 use Rattle.guide.proofs.put_before.Statement.{statement}
 use Rattle.guide.proofs.put_before.Tie as tie
 

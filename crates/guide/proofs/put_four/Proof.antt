@@ -2,7 +2,7 @@
 use native.Mathlib.Omega.{arith}
 use borrow.Author.Needs.{needs}
 use lib.ListN.{length-set}
-use Rattle.guide.proofs.Lists.{stores}
+use Rattle.lists.proofs.Parts.{four-stores}
 use Rattle.guide.proofs.put_four.Statement.{statement}
 use Rattle.guide.proofs.put_four.Tie as tie
 
@@ -43,7 +43,7 @@ same-length : tie.Need-same-length
 same-length c = search needs
 
 returns : tie.Need-returns
-returns c = stores (c .args .words .now) (c .args .at) (c .args .a) (c .args .b) (c .args .c) (c .args .d) (c .pre)
+returns c = four-stores (c .args .words .now) (c .args .at) (c .args .a) (c .args .b) (c .args .c) (c .args .d) (c .pre)
 
 pub put-four-spec : {M : Type 1} → statement M
 put-four-spec =

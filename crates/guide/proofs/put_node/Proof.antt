@@ -4,9 +4,9 @@ use mathlib.Core.List.{[], _∷_}
 use Prim.Native.Nat.{_*_}
 use native.Mathlib.Omega.{arith}
 use borrow.Author.Needs.{needs}
+use Rattle.lists.proofs.Parts.{then-patch}
 use Rattle.model.specs.Plan.{rectWords}
 use Rattle.guide.specs.declared.Node.{Node}
-use Rattle.guide.proofs.Lists.{then-patch}
 use Rattle.guide.proofs.put_node.Statement.{statement}
 use Rattle.guide.proofs.put_node.Tie as tie
 

@@ -5,8 +5,8 @@ use Prim.Native.Nat.{ℕ, _+_, _*_}
 use native.Mathlib.Omega.{arith}
 use borrow.Author.Needs.{needs}
 use lib.ListN.{length, drop}
+use Rattle.lists.specs.Parts.{patch}
 use Rattle.guide.specs.declared.Subtree.{Subtree}
-use Rattle.guide.specs.Lists.{patch}
 use Rattle.guide.specs.Words.{subtreeWords, spliced}
 use Rattle.guide.proofs.Subtrees.{subtree-length}
 use Rattle.guide.proofs.Splices.{splice-words}

@@ -6,8 +6,9 @@ use native.Mathlib.Omega.{arith}
 use denote.Ref.{now}
 use lib.ListN.{take, drop, length-set}
 use borrow.Author.Needs.{needs}
-use Rattle.guillotine.specs.SheetWords.{rectWords, putRect}
-use Rattle.guillotine.proofs.Words.{put-four}
+use Rattle.lists.proofs.Parts.{four-stores}
+use Rattle.model.specs.Plan.{rectWords}
+use Rattle.guillotine.specs.SheetWords.{putRect}
 use Rattle.guillotine.proofs.put_rect.Statement.{statement}
 use Rattle.guillotine.proofs.put_rect.Tie as tie
 
@@ -58,7 +59,7 @@ unfolding putRect
 returns c =
     let a = c .args in
     let past : 4 * a .index + 1 + 4 ≡ 4 * a .index + 5 = omega arith in
-    put-four (now (a .sheet)) (4 * a .index + 1) (a .rect .x) (a .rect .y) (a .rect .width) (a .rect .length) (omega arith)
+    four-stores (now (a .sheet)) (4 * a .index + 1) (a .rect .x) (a .rect .y) (a .rect .width) (a .rect .length) (omega arith)
     ∙ ap (λ (n : ℕ). take (4 * a .index + 1) (now (a .sheet)) ++ (rectWords (a .rect) ++ drop n (now (a .sheet)))) past
 
 pub put-rect-spec : {M : Type 1} → statement M

@@ -4,8 +4,8 @@ use native.Mathlib.Omega.{arith}
 use denote.Ref.{now}
 use lib.ListN.{length, length-set}
 use borrow.Author.Needs.{needs}
+use Rattle.lists.proofs.Maps.{counted}
 use Rattle.free_rects.proofs.Splits.{length-rects}
-use Rattle.free_rects.proofs.Arrays.{counted}
 use Rattle.free_rects.specs.FreeList.{rectsOf}
 use Rattle.guillotine.proofs.Words.{put-counted}
 use Rattle.guillotine.proofs.store.Statement.{statement}

@@ -8,8 +8,8 @@ use denote.Ref.{now}
 use lib.Seq.{take-suc, length-take-le}
 use lib.ListN.{length, getD, take}
 use borrow.Author.Needs.{needs}
+use Rattle.lists.proofs.Maps.{counted}
 use Rattle.model.specs.Types.{noRect}
-use Rattle.free_rects.proofs.Arrays.{counted}
 use Rattle.guillotine.specs.SheetWords.{putRect, putRects}
 use Rattle.guillotine.proofs.Words.{put-none, put-snoc}
 use Rattle.guillotine.proofs.store_rects.Statement.{statement}

@@ -5,8 +5,8 @@ use native.Mathlib.Omega.{arith}
 use denote.Ref.{now}
 use lib.ListN.{length, getD, take, drop}
 use borrow.Author.Needs.{needs}
+use Rattle.lists.proofs.Every.{all-get}
 use Rattle.model.specs.Types.{noRect}
-use Rattle.free_rects.proofs.Arrays.{all-get}
 use Rattle.free_rects.specs.Bounds.{Small}
 use Rattle.guillotine.specs.Insertions.{touches}
 use Rattle.guillotine.specs.SheetWords.{rectsIn}

@@ -1,8 +1,8 @@
 -- `instances::copy_row` meets its contract.
 use mathlib.Core.Path.{ap, _∙_}
-use Rattle.instances.specs.Tables.{patch}
-use Rattle.instances.proofs.Patch.{six-words}
 use borrow.Author.Needs.{needs}
+use Rattle.lists.proofs.Parts.{six-words}
+use Rattle.lists.specs.Parts.{patch}
 use Rattle.instances.proofs.copy_row.Statement.{statement}
 use Rattle.instances.proofs.copy_row.Tie as tie
 

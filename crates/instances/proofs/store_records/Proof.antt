@@ -4,9 +4,10 @@ use mathlib.Core.Path.{sym, ap, _∙_, subst}
 use lib.ListN.{length}
 use Rattle.model.specs.Project.{Piece}
 use Rattle.project.specs.Records.{recordAt}
-use Rattle.instances.specs.Tables.{rowsOf, patch}
+use Rattle.instances.specs.Tables.{rowsOf}
 use Rattle.instances.proofs.Tables.{Writing, writing-start, writing-room, writing-step, writing-end, records-room, records-end}
 use borrow.Author.Needs.{needs}
+use Rattle.lists.specs.Parts.{patch}
 use Rattle.instances.proofs.store_records.Statement.{statement}
 use Rattle.instances.proofs.store_records.Tie as tie
 

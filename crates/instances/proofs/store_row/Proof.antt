@@ -6,10 +6,11 @@ use mathlib.Core.List.{List, [], _∷_}
 use lib.ListN.{length, set}
 use Rattle.model.specs.Project.{Piece}
 use Rattle.project.specs.Records.{pieceOf}
-use Rattle.instances.specs.Tables.{wordsOf, patch}
-use Rattle.instances.proofs.Patch.{store-behind}
+use Rattle.instances.specs.Tables.{wordsOf}
 use Rattle.instances.proofs.Tables.{least-words, stock-row, cut-row}
 use borrow.Author.Needs.{needs}
+use Rattle.lists.proofs.Parts.{store-behind}
+use Rattle.lists.specs.Parts.{patch}
 use Rattle.instances.proofs.store_row.Statement.{statement}
 use Rattle.instances.proofs.store_row.Tie as tie
 

@@ -1,7 +1,7 @@
 -- `instances::store_six` meets its contract.
 use lib.ListN.{length-set}
-use Rattle.instances.proofs.Patch.{six-stores}
 use borrow.Author.Needs.{needs}
+use Rattle.lists.proofs.Parts.{six-stores}
 use Rattle.instances.proofs.store_six.Statement.{statement}
 use Rattle.instances.proofs.store_six.Tie as tie
 

@@ -2,10 +2,10 @@
 use native.Mathlib.Omega.{arith}
 use mathlib.Core.Path.{refl, sym, _∙_}
 use Rattle.candidate.specs.Stands.{instanceIn, candidateIn}
-use Rattle.placing.proofs.Tries.{is-none}
 use Rattle.plan.specs.Sheets.{candidatePlan}
 use Rattle.optimizer.proofs.Ends.{few-numbers, winner-planned, winner-missing, behind-cleared}
 use borrow.Author.Needs.{needs}
+use Rattle.lists.proofs.Options.{none-by}
 use Rattle.optimizer.proofs.find_plan.Statement.{statement}
 use Rattle.optimizer.proofs.find_plan.Tie as tie
 
@@ -56,7 +56,7 @@ returns-2 : tie.Need-returns-2
 returns-2 c =
     let s = c .before .before .before .before .before .before .before .before .before .before .before .before .before in
     let w = c .before .before .before .before .winner .ensures in (
-      record { ends = (winner-missing (instanceIn (s .args .stock .now) (s .args .cuts .now) (s .args .inst)) _ _ (s .args .effort) (c .before .before .before .before .before .before .before .before .heuristic-variants .ensures .0) (c .before .before .before .before .before .before .before .search-numbers .ensures) (s .pre .3) (is-none _ (sym (w .0 .found) ∙ c .if1 .left)), refl) },
+      record { ends = (winner-missing (instanceIn (s .args .stock .now) (s .args .cuts .now) (s .args .inst)) _ _ (s .args .effort) (c .before .before .before .before .before .before .before .before .heuristic-variants .ensures .0) (c .before .before .before .before .before .before .before .search-numbers .ensures) (s .pre .3) (none-by _ (sym (w .0 .found) ∙ c .if1 .left)), refl) },
       behind-cleared _ _ (w .1),
     )
 

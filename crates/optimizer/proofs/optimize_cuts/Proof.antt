@@ -1,17 +1,11 @@
 -- `optimizer::optimize_cuts` meets its contract: the tables show the file's instance.
-use mathlib.Core.Path.{_≡_, subst}
+use mathlib.Core.Path.{_≡_}
 use lib.ListN.{length}
-use Rattle.model.specs.declared.LayoutKind.{LayoutKind}
-use Rattle.model.specs.declared.OptimizerEffort.{OptimizerEffort}
-use Rattle.model.specs.Types.{effortOf}
 use Rattle.model.specs.Project.{projectOf}
-use Rattle.model.specs.Expand.{ProblemInstance, expandProject}
-use Rattle.model.specs.Search.{searchNumbers, heuristicVariants}
-use Rattle.model.specs.Answer.{searched}
+use Rattle.model.specs.Expand.{expandProject}
 use Rattle.project.proofs.Shape.{passed-long}
 use Rattle.candidate.specs.declared.Instance.{Instance}
 use Rattle.candidate.specs.Stands.{instanceIn, Tables}
-use Rattle.optimizer.specs.Promise.{Ends}
 use Rattle.optimizer.proofs.Ends.{ends-as, searched-as}
 use Rattle.optimizer.proofs.FromFile.{shows-instance, shows-tables}
 use borrow.Author.Needs.{needs}

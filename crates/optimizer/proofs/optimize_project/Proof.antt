@@ -9,10 +9,10 @@ use Rattle.model.specs.declared.LayoutKind.{LayoutKind}
 use Rattle.model.specs.Fitness.{one}
 use Rattle.model.specs.Plan.{planWords}
 use Rattle.project.proofs.Shape.{passed-long}
-use Rattle.optimizer.specs.declared.Answer.{Answer}
 use Rattle.optimizer.specs.Promise.{Promise}
-use Rattle.optimizer.proofs.Ends.{end-empty, end-search, length-zero, not-empty, promise-as}
+use Rattle.optimizer.proofs.Ends.{end-empty, end-search, promise-as}
 use borrow.Author.Needs.{needs}
+use Rattle.lists.proofs.Arrays.{length-zero, not-empty}
 use Rattle.optimizer.proofs.optimize_project.Statement.{statement}
 use Rattle.optimizer.proofs.optimize_project.Tie as tie
 

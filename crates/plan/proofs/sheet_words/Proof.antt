@@ -5,8 +5,9 @@ use lib.ListN.{getD, take, drop}
 use native.Mathlib.Nat.{add-sub-cancel-left}
 use mathlib.Core.Path.{sym, ap, _∙_}
 use native.Mathlib.Omega.{arith}
-use Rattle.plan.proofs.Reading.{sheet-none, sheet-some}
+use Rattle.plan.proofs.Reading.{sheet-none}
 use borrow.Author.Needs.{needs}
+use Rattle.trust.proofs.RoundTrip.{part-there}
 use Rattle.plan.proofs.sheet_words.Statement.{statement}
 use Rattle.plan.proofs.sheet_words.Tie as tie
 
@@ -96,7 +97,7 @@ returns-6 c =
     let p : List ℕ = c .before .before .before .before .before .before .before .before .before .args .plan .now in
     let k : ℕ = c .before .before .before .before .before .before .before .before .before .args .number in
     ap (λ (n : ℕ). take n (drop (getD p (4 + 2 * k) 0) p)) (add-sub-cancel-left (getD p (4 + 2 * k) 0) (getD p (4 + 2 * k + 1) 0))
-    ∙ sym (sheet-some p k (omega arith) (omega arith) (omega arith) (omega arith))
+    ∙ sym (part-there p k (omega arith) (omega arith) (omega arith) (omega arith))
 
 pub sheet-words-spec : {M : Type 1} → statement M
 sheet-words-spec =

@@ -1,7 +1,5 @@
 -- `population::improve` meets its contract.
-use mathlib.Core.Path.{_≡_, sym, ap, _∙_}
-use mathlib.Core.List.{List}
-use Prim.Native.Nat.{ℕ}
+use mathlib.Core.Path.{ap, _∙_}
 use Rattle.model.specs.Candidate.{Candidate, reinsertUnusedFirstFit, compactWorstBin}
 use Rattle.model.specs.Expand.{ProblemInstance}
 use Rattle.candidate.specs.Stands.{instanceIn}

@@ -1,13 +1,12 @@
 -- `population::improve_population` meets its contract: the first k candidates are improved.
-use Prim.Native.Nat.{ℕ, _+_, _-_, _*_, _≤_, _<_}
+use Prim.Native.Nat.{ℕ, _+_, _-_, _*_, _≤_}
 use native.Mathlib.Omega.{arith}
 use mathlib.Core.Path.{_≡_, refl, sym, ap, _∙_, subst}
 use mathlib.Core.List.{List, []}
 use lib.ListN.{length, getD}
 use Rattle.model.specs.Expand.{ProblemInstance}
-use Rattle.candidate.specs.declared.Candidate.{Candidate as Words}
 use Rattle.candidate.specs.Stands.{instanceIn, Stands}
-use Rattle.candidate.proofs.Instances.{stock-count, cut-count}
+use Rattle.candidate.proofs.Instances.{cut-count}
 use Rattle.placing.specs.Blocks.{behindBlocks}
 use Rattle.stored.specs.Slots.{slotWords, slotOf, storedIn}
 use Rattle.stored.specs.Populations.{wordsAt, StandsAt}

@@ -1,22 +1,21 @@
 -- `population::initial_population` meets its contract: the candidates of the first k seeds are stored.
-use Prim.Native.Nat.{ℕ, _+_, _-_, _*_, _≤_, _<_}
+use Prim.Native.Nat.{ℕ, _-_, _≤_, _<_}
 use native.Mathlib.Omega.{arith}
-use mathlib.Core.Path.{_≡_, refl, sym, ap, _∙_, subst}
+use mathlib.Core.Path.{_≡_, refl, _∙_, subst}
 use mathlib.Core.List.{List, []}
 use lib.ListN.{length}
 use Rattle.model.specs.Expand.{ProblemInstance}
-use Rattle.model.specs.Search.{SearchNumbers as Numbers, initialSeeds}
+use Rattle.model.specs.Search.{SearchNumbers as Numbers}
 use Rattle.candidate.specs.Stands.{instanceIn}
 use Rattle.candidate.proofs.Instances.{cut-count}
 use Rattle.placing.specs.Blocks.{behindBlocks}
-use Rattle.seeds.specs.Rows.{numbersOf, rowsOf, sortedSeeds}
-use Rattle.seeds.specs.Seeds.{InOrder, IsSeed}
-use Rattle.seeds.proofs.Nth.{counted, seeds-length}
-use Rattle.stored.specs.Slots.{slotWords}
+use Rattle.seeds.specs.Rows.{numbersOf, rowsOf}
+use Rattle.seeds.proofs.Nth.{seeds-length}
 use Rattle.stored.specs.Populations.{Holds}
 use Rattle.stored.proofs.Slots.{storable}
 use Rattle.population.proofs.Firsts.{firsts-all, in-order, StoredTo, stored-none, stored-step}
 use borrow.Author.Needs.{needs}
+use Rattle.lists.proofs.Maps.{counted}
 use Rattle.population.proofs.initial_population.Statement.{statement}
 use Rattle.population.proofs.initial_population.Tie as tie
 

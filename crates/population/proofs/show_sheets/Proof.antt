@@ -1,15 +1,13 @@
 -- `population::show_sheets` meets its contract: the sheets of a candidate that stands are rebuilt.
-use Prim.Native.Nat.{ℕ, _*_, _≤_}
+use Prim.Native.Nat.{_*_, _≤_}
 use native.Mathlib.Omega.{arith}
-use mathlib.Core.Path.{_≡_, sym, ap, _∙_, subst}
-use mathlib.Core.List.{List, []}
-use lib.ListN.{length, take}
+use mathlib.Core.Path.{_≡_, sym}
+use mathlib.Core.List.{[]}
+use lib.ListN.{length}
 use lib.Seq.{length-take-le}
 use Rattle.model.specs.Expand.{ProblemInstance}
 use Rattle.candidate.specs.Stands.{instanceIn}
 use Rattle.candidate.proofs.Standing.{length-sheets, few-placed}
-use Rattle.placing.specs.Placing.{Leaves}
-use Rattle.placing.specs.Rebuilding.{Rebuildable, Rebuilds}
 use Rattle.placing.proofs.Rebuilding.{candidate-rebuildable, candidate-shown}
 use borrow.Author.Needs.{needs}
 use Rattle.population.proofs.show_sheets.Statement.{statement}

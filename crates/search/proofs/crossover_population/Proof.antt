@@ -1,16 +1,13 @@
 -- `search::crossover_population` meets its contract: the pairs before i have had their children.
-use Prim.Native.Nat.{ℕ, _+_, _-_, _*_, _≤_, _<_}
+use Prim.Native.Nat.{ℕ, _+_, _-_, _≤_, _<_}
 use native.Mathlib.Omega.{arith}
-use mathlib.Core.Path.{_≡_, refl, sym, ap, _∙_, subst}
+use mathlib.Core.Path.{_≡_, refl, sym, _∙_, subst}
 use mathlib.Core.List.{List, []}
-use lib.ListN.{length, getD}
+use lib.ListN.{length}
 use Rattle.model.specs.Expand.{ProblemInstance}
-use Rattle.candidate.specs.declared.Candidate.{Candidate as Words}
 use Rattle.candidate.specs.Stands.{instanceIn, Stands}
 use Rattle.candidate.proofs.Instances.{cut-count}
 use Rattle.placing.specs.Blocks.{behindBlocks}
-use Rattle.stored.specs.Slots.{slotWords}
-use Rattle.stored.specs.Populations.{wordsAt}
 use Rattle.stored.proofs.Slots.{storable}
 use Rattle.stored.proofs.Populations.{standing-at}
 use Rattle.search.proofs.Pushing.{CrossedTo, crossed-none, parent-fits, parent-loaded, crossed-step, crossed-all}

@@ -1,12 +1,11 @@
 -- `search::next_generation` meets its contract.
-use Prim.Native.Nat.{ℕ, _+_, _-_, _*_, _≤_}
+use Prim.Native.Nat.{ℕ, _+_, _-_, _≤_}
 use native.Mathlib.Omega.{arith}
-use mathlib.Core.Path.{_≡_, sym, ap, _∙_, subst}
+use mathlib.Core.Path.{_∙_, subst}
 use mathlib.Core.List.{List}
 use lib.ListN.{length}
 use Rattle.model.specs.Expand.{ProblemInstance}
 use Rattle.candidate.specs.Stands.{instanceIn}
-use Rattle.stored.specs.Slots.{slotWords}
 use Rattle.stored.specs.Populations.{populationIn, Holds}
 use Rattle.stored.proofs.Populations.{only-wider, only-then}
 use Rattle.search.proofs.Rounds.{regions, region-most, generation-is}

@@ -1,5 +1,5 @@
 -- `search::winner` meets its contract: what is left of the rounds gives what all of them give.
-use Prim.Native.Nat.{ℕ, _+_, _-_, _*_, _≤_, _<_}
+use Prim.Native.Nat.{ℕ, _-_, _≤_, _<_}
 use native.Mathlib.Omega.{arith}
 use mathlib.Core.Path.{_≡_, refl, sym, ap, _∙_, subst}
 use mathlib.Core.List.{List}
@@ -11,7 +11,6 @@ use Rattle.model.specs.Search.{initialPopulation, runGenerations}
 use Rattle.candidate.specs.Stands.{instanceIn}
 use Rattle.placing.specs.Blocks.{behindBlocks}
 use Rattle.seeds.specs.Rows.{numbersOf, rowsOf}
-use Rattle.stored.specs.Slots.{slotWords}
 use Rattle.stored.specs.Populations.{populationIn}
 use Rattle.stored.proofs.Populations.{only-wider, only-then, only-none}
 use Rattle.survival.specs.Ranks.{Chosen}

@@ -1,8 +1,9 @@
 -- `seeds::default_heuristic` meets its contract.
 use mathlib.Core.Path.{_≡_, sym}
 use lib.ListN.{length}
-use Rattle.seeds.proofs.Nth.{counted, first-row}
+use Rattle.seeds.proofs.Nth.{first-row}
 use borrow.Author.Needs.{needs}
+use Rattle.lists.proofs.Maps.{counted}
 use Rattle.seeds.proofs.default_heuristic.Statement.{statement}
 use Rattle.seeds.proofs.default_heuristic.Tie as tie
 

@@ -2,13 +2,14 @@
 use Prim.Native.Nat.{ℕ, _+_, _-_, _≤_, _<_}
 use native.Mathlib.Omega.{arith}
 use mathlib.Core.Path.{_≡_, sym, ap, _∙_}
-use mathlib.Core.List.{List, _++_}
+use mathlib.Core.List.{_++_}
 use lib.ListN.{length, take, drop}
 use Rattle.model.specs.TinyPrng.{wrap}
 use Rattle.generator.specs.Shuffle.{shuffled}
 use Rattle.seeds.specs.Rows.{sortedSeeds}
-use Rattle.seeds.proofs.Nth.{counted, sorted-most, is-sorted, is-shuffled}
+use Rattle.seeds.proofs.Nth.{sorted-most, is-sorted, is-shuffled}
 use borrow.Author.Needs.{needs}
+use Rattle.lists.proofs.Maps.{counted}
 use Rattle.seeds.proofs.initial_candidate_seed.Statement.{statement}
 use Rattle.seeds.proofs.initial_candidate_seed.Tie as tie
 

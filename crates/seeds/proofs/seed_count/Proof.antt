@@ -3,8 +3,9 @@ use Prim.Native.Nat.{ℕ, _+_}
 use native.Mathlib.Omega.{arith}
 use mathlib.Core.Path.{_≡_, ap, _∙_}
 use lib.ListN.{length}
-use Rattle.seeds.proofs.Nth.{counted, seeds-length, sorted-most}
+use Rattle.seeds.proofs.Nth.{seeds-length, sorted-most}
 use borrow.Author.Needs.{needs}
+use Rattle.lists.proofs.Maps.{counted}
 use Rattle.seeds.proofs.seed_count.Statement.{statement}
 use Rattle.seeds.proofs.seed_count.Tie as tie
 

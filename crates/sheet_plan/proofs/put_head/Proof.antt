@@ -2,9 +2,9 @@
 use mathlib.Core.Path.{ap, _∙_}
 use mathlib.Core.List.{List}
 use Prim.Native.Nat.{ℕ}
-use Rattle.guide.specs.Lists.{patch}
 use Rattle.sheet_plan.proofs.Joined.{ten, head-row}
 use borrow.Author.Needs.{needs}
+use Rattle.lists.specs.Parts.{patch}
 use Rattle.sheet_plan.proofs.put_head.Statement.{statement}
 use Rattle.sheet_plan.proofs.put_head.Tie as tie
 

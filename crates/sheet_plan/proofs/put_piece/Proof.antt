@@ -1,12 +1,11 @@
 -- Two parts of four words and a store.
-use native.Mathlib.Omega.{arith}
 use mathlib.Core.Path.{ap, _∙_}
 use mathlib.Core.List.{List}
-use Prim.Native.Nat.{ℕ, _+_}
+use Prim.Native.Nat.{ℕ}
 use lib.ListN.{length-set}
-use Rattle.guide.specs.Lists.{patch}
 use Rattle.sheet_plan.proofs.Joined.{nine, piece-row}
 use borrow.Author.Needs.{needs}
+use Rattle.lists.specs.Parts.{patch}
 use Rattle.sheet_plan.proofs.put_piece.Statement.{statement}
 use Rattle.sheet_plan.proofs.put_piece.Tie as tie
 

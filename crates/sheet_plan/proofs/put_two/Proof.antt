@@ -1,8 +1,8 @@
 -- Two stores side by side are one part.
 use native.Mathlib.Omega.{arith}
 use lib.ListN.{length-set}
-use Rattle.sheet_plan.proofs.Patches.{two-stores}
 use borrow.Author.Needs.{needs}
+use Rattle.lists.proofs.Parts.{two-stores}
 use Rattle.sheet_plan.proofs.put_two.Statement.{statement}
 use Rattle.sheet_plan.proofs.put_two.Tie as tie
 

@@ -1,7 +1,7 @@
 -- `stored::copy_stored` meets its contract: the first i words are copied.
-use mathlib.Core.Path.{_≡_, refl, sym, ap, _∙_}
+use mathlib.Core.Path.{_≡_}
 use mathlib.Core.List.{List}
-use Prim.Native.Nat.{ℕ, _+_, _-_, _*_, _≤_}
+use Prim.Native.Nat.{ℕ, _-_, _*_, _≤_}
 use native.Mathlib.Omega.{arith}
 use lib.ListN.{length, length-set}
 use lib.Seq.{paste, paste-zero}

@@ -1,13 +1,13 @@
 -- `stored::get_words` meets its contract: the first i words are copied, and zeros stand behind them.
-use mathlib.Core.Path.{_≡_, refl, sym, ap, _∙_}
+use mathlib.Core.Path.{_≡_, sym, ap, _∙_}
 use mathlib.Core.List.{List, _++_}
 use Prim.Native.Nat.{ℕ, _+_, _-_, _≤_}
 use native.Mathlib.Omega.{arith}
-use lib.ListN.{length, getD, set, take, drop, replicate, length-set, length-replicate}
-use Rattle.guide.specs.Lists.{part}
+use lib.ListN.{length, getD, set, drop, replicate, length-set, length-replicate}
 use Rattle.stored.specs.Slots.{filled}
-use Rattle.stored.proofs.Parts.{length-part, front-more}
 use borrow.Author.Needs.{needs}
+use Rattle.lists.specs.Parts.{part}
+use Rattle.lists.proofs.Parts.{length-part, front-more}
 use Rattle.stored.proofs.get_words.Statement.{statement}
 use Rattle.stored.proofs.get_words.Tie as tie
 

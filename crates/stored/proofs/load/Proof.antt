@@ -2,11 +2,11 @@
 use mathlib.Core.List.{List}
 use Prim.Native.Nat.{ℕ}
 use native.Mathlib.Omega.{arith}
-use Rattle.guide.specs.Lists.{part}
 use Rattle.stored.specs.Slots.{unpacked}
-use Rattle.stored.proofs.Parts.{length-part}
 use Rattle.stored.proofs.Slots.{filled-all}
 use borrow.Author.Needs.{needs}
+use Rattle.lists.specs.Parts.{part}
+use Rattle.lists.proofs.Parts.{length-part}
 use Rattle.stored.proofs.load.Statement.{statement}
 use Rattle.stored.proofs.load.Tie as tie
 

@@ -1,11 +1,11 @@
 -- `stored::load_at` meets its contract.
-use mathlib.Core.Path.{_≡_, sym, ap, _∙_, subst}
+use mathlib.Core.Path.{sym, ap, _∙_, subst}
 use mathlib.Core.List.{List}
 use Prim.Native.Nat.{ℕ, _*_, _≤_}
 use lib.ListN.{length, getD}
 use Rattle.stored.specs.Slots.{slotWords, unpacked, storedIn}
-use Rattle.stored.proofs.Parts.{length-part, part-span}
 use borrow.Author.Needs.{needs}
+use Rattle.lists.proofs.Parts.{length-part, part-span}
 use Rattle.stored.proofs.load_at.Statement.{statement}
 use Rattle.stored.proofs.load_at.Tie as tie
 

@@ -1,14 +1,13 @@
 -- `stored::store_at` meets its contract: two counts and three rows of words, one behind the other.
-use mathlib.Core.Path.{_≡_, refl, sym, ap, _∙_}
-use mathlib.Core.List.{List}
-use Prim.Native.Nat.{ℕ, _+_, _*_, _≤_}
+use mathlib.Core.Path.{_≡_, ap, _∙_}
+use Prim.Native.Nat.{ℕ, _+_, _*_}
 use native.Mathlib.Omega.{arith}
 use lib.ListN.{length, take, length-set}
 use lib.Seq.{take-all, length-take-le}
-use Rattle.guide.specs.Lists.{patch}
 use Rattle.stored.specs.Slots.{slotWords, packed, storeIn}
 use Rattle.stored.proofs.Slots.{store-words}
 use borrow.Author.Needs.{needs}
+use Rattle.lists.specs.Parts.{patch}
 use Rattle.stored.proofs.store_at.Statement.{statement}
 use Rattle.stored.proofs.store_at.Tie as tie
 

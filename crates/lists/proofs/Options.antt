@@ -1,9 +1,10 @@
 -- A chain of options that ends in a value has one at every step, and a fold of such steps keeps what each of them keeps.
 use mathlib.Core.Path.{_≡_, refl, subst}
-use mathlib.Core.List.{List, [], _∷_, _++_}
-use mathlib.Core.Option.{Option, none, some, Option·some-injective, Option·none-ne-some}
-use Rattle.lists.specs.Base.{_>>=_, toList, foldOption}
+use mathlib.Core.Bool.{false, false≢true, true, true≢false}
+use mathlib.Core.List.{[], _++_, _∷_, List}
+use mathlib.Core.Option.{Option, Option·none-ne-some, Option·some-injective, none, some}
+use Rattle.lists.specs.Base.{_>>=_, foldOption, isSome, toList}
 use Rattle.lists.proofs.Perm.{All}
 
 module _ {A B : Type 0} where
   pub record Through (o : Option A) (f : A → Option B) (b : B) : Type 0 where
@@ -18,6 +19,15 @@ module _ {A B : Type 0} where
 pub all-some : {A : Type 0} (P : A → Type 0) (o : Option A) → ((a : A) → o ≡ some a → P a) → All P (toList o)
 all-some P none f = tt
 all-some P (some a) f = (f a refl, tt)
+
+-- an option by whether there is one
+pub none-by : {A : Type 0} (o : Option A) → isSome o ≡ false → o ≡ none
+none-by none e = refl
+none-by (some a) e = absurd (true≢false e)
+
+pub some-by : {A : Type 0} (o : Option A) → isSome o ≡ true → (a : A) × (o ≡ some a)
+some-by none e = absurd (false≢true e)
+some-by (some a) e = (a, refl)
 
 module _ {A B : Type 0} (f : B → A → Option B) where
   pub fold-append : (b : B) (xs ys : List A) → foldOption f b (xs ++ ys) ≡ (foldOption f b xs >>= λ c. foldOption f c ys)
