@@ -188,7 +188,9 @@ impl Counts {
         for n in 1..18 {
             println!("refused {n}: {}", self.answers[n]);
         }
-        println!("slowest call {} us, of a file of {} bytes", self.slowest / 1000, self.slowest_file.len());
+        let (again, _) = timed(&self.slowest_file, 21);
+        let (size, effort) = (self.slowest_file.len(), self.slowest_file.get(EFFORT));
+        println!("slowest call {} us, again {} us at best of 21: {size} bytes, effort {effort:?}", self.slowest / 1000, again / 1000);
     }
 }
 

@@ -9,7 +9,7 @@ in that function's own proof (or in its code, where the proof is made) which is 
 import os, re, shutil, subprocess, sys, tempfile, time
 
 ROOT = os.getcwd()
-KIT = os.environ.get("RATTLE_HOME", "/opt/rattle")
+KIT = os.environ.get("RATTLE_HOME") or os.path.dirname(os.path.dirname(os.path.realpath(shutil.which("rt"))))
 OWN = f"{KIT}/on/{os.uname().machine}"
 # Errors that follow from another one, or say only that the code has other calls and operations than the proof names.
 ECHO = ("was not admitted", "`: module `", "has no field", "this pattern needs a function", "expected type `tie.Need-")
