@@ -13,7 +13,7 @@ ghost use Rattle.lists.specs.Base.{range};
 ghost use Rattle.lists.proofs.Perm.{Perm};
 ghost use Rattle.model.specs.Search.{initialPopulation};
 ghost use Rattle.candidate.specs.Stands.{instanceIn, Tables, Stands};
-ghost use Rattle.seeds.specs.Rows.{numbersOf, rowsOf, HasRows};
+ghost use Rattle.seeds.specs.Rows.{numbersOf, rowsOf};
 ghost use Rattle.seeds.specs.Seeds.{placesOf};
 ghost use Rattle.stored.specs.Slots.{slotWords};
 ghost use Rattle.stored.specs.Populations.{AllStand, Holds, Becomes, OnlySlots};
@@ -50,7 +50,7 @@ pub fn initial_population(
     rows: HeuristicRows,
     n: SearchNumbers,
 ) -> usize
-    requires { ⌜ Tables (now stock) (now cuts) inst × HasRows rows × (n .shuffles ≤ 24) × (slotWords * 48 ≤ length (now ws)) × (261 * 64 ≤ length (now free)) ⌝ }
+    requires { ⌜ Tables (now stock) (now cuts) inst × (rows .count ≤ 8) × (n .shuffles ≤ 24) × (slotWords * 48 ≤ length (now ws)) × (261 * 64 ≤ length (now free)) ⌝ }
     ensures { λ r. ⌜ Holds (instanceIn (now (stock .entry)) (now (cuts .entry)) inst) (now (ws .exit)) 0 r (initialPopulation (rowsOf rows) (instanceIn (now (stock .entry)) (now (cuts .entry)) inst) (numbersOf n))
         × OnlySlots 0 48 (now (ws .entry)) (now (ws .exit)) × (behindBlocks (now (free .exit)) ≡ behindBlocks (now (free .entry))) × (r ≤ 32) ⌝ }
 {

@@ -12,7 +12,7 @@ ghost use Prim.Native.Nat.{_+_, _-_, _*_, _≤_, _<_};
 ghost use lib.ListN.{length};
 ghost use Rattle.model.specs.Search.{crossoverPopulation, generation, winner};
 ghost use Rattle.candidate.specs.Stands.{instanceIn, Tables};
-ghost use Rattle.seeds.specs.Rows.{numbersOf, rowsOf, HasRows};
+ghost use Rattle.seeds.specs.Rows.{numbersOf, rowsOf};
 ghost use Rattle.stored.specs.Slots.{slotWords, Storable};
 ghost use Rattle.stored.specs.Populations.{AllStand, Becomes, OnlySlots};
 ghost use Rattle.placing.specs.Blocks.{behindBlocks};
@@ -105,7 +105,7 @@ pub fn winner(
     rows: HeuristicRows,
     n: SearchNumbers,
 ) -> Found
-    requires { ⌜ Tables (now stock) (now cuts) inst × HasRows rows × (n .shuffles ≤ 24) × (n .survivors ≤ 32) × (slotWords * 96 ≤ length (now ws)) × (261 * 64 ≤ length (now free)) ⌝ }
+    requires { ⌜ Tables (now stock) (now cuts) inst × (rows .count ≤ 8) × (n .shuffles ≤ 24) × (n .survivors ≤ 32) × (slotWords * 96 ≤ length (now ws)) × (261 * 64 ≤ length (now free)) ⌝ }
     ensures { λ r. ⌜ Chosen (instanceIn (now (stock .entry)) (now (cuts .entry)) inst) (winner (rowsOf rows) (instanceIn (now (stock .entry)) (now (cuts .entry)) inst) (numbersOf n)) r
         × (behindSlots (now (ws .exit)) ≡ behindSlots (now (ws .entry))) × (behindBlocks (now (free .exit)) ≡ behindBlocks (now (free .entry))) ⌝ }
 {

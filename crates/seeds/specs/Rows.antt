@@ -1,5 +1,5 @@
 -- The declared numbers and rows as those of the definition.
-use Prim.Native.Nat.{ℕ, _≤_, _<_}
+use Prim.Native.Nat.{ℕ, _+_, _-_}
 use mathlib.Core.List.{List}
 use lib.ListN.{take}
 use Rattle.lists.specs.Base.{if_then_else_}
@@ -15,11 +15,6 @@ numbersOf n =
 unfoldable pub rowsOf : HeuristicRows → List BaselineGuillotineHeuristic
 rowsOf r = take (r .count) (r .rows)
 
--- one row or more
-pub record HasRows (r : HeuristicRows) : Type 0 where
-  pub one : 0 < r .count
-  pub few : r .count ≤ 8
-
--- how many seeds have the sorted order
+-- how many seeds have the sorted order: one also where there is no row
 unfoldable pub sortedSeeds : HeuristicRows → SearchNumbers → ℕ
-sortedSeeds r n = if n .variants then r .count else 1
+sortedSeeds r n = if n .variants then 1 + (r .count - 1) else 1

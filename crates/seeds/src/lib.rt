@@ -7,14 +7,14 @@ use model::GuillotineSplitHeuristic;
 use model::OptimizerEffort;
 use model::RotationPreference;
 ghost use mathlib.Core.Path.{_≡_};
-ghost use mathlib.Core.List.{List, _++_};
+ghost use mathlib.Core.List.{List, [], _++_};
 ghost use Prim.Native.Nat.{_+_, _≤_, _<_};
-ghost use lib.ListN.{length, take, drop};
+ghost use lib.ListN.{length, getD, take, drop};
 ghost use Rattle.model.specs.declared.CutInstance.{CutInstance};
 ghost use Rattle.model.specs.Expand.{ProblemInstance};
 ghost use Rattle.model.specs.Search.{heuristic, searchNumbers, heuristicVariants, defaultHeuristic, initialSeeds};
 ghost use Rattle.generator.specs.Shuffle.{shuffled};
-ghost use Rattle.seeds.specs.Rows.{numbersOf, rowsOf, HasRows, sortedSeeds};
+ghost use Rattle.seeds.specs.Rows.{numbersOf, rowsOf, sortedSeeds};
 ghost use Rattle.seeds.specs.Seeds.{InOrder, IsSeed};
 
 // What is left of PopulationPipelineConfig: max_candidates cuts nothing off.
@@ -26,7 +26,7 @@ pub struct SearchNumbers {
     pub first_seed: u64,
 }
 
-// Up to eight heuristics; the first is the default one.
+// Up to eight heuristics; the first, if there is one, is the default one.
 pub struct HeuristicRows {
     pub rows: [BaselineGuillotineHeuristic; 8],
     pub count: usize,
@@ -77,7 +77,7 @@ fn row(
 }
 
 pub fn heuristic_variants() -> HeuristicRows
-    ensures { λ r. ⌜ (rowsOf r ≡ heuristicVariants) × HasRows r ⌝ }
+    ensures { λ r. ⌜ (rowsOf r ≡ heuristicVariants) × (r .count ≤ 8) ⌝ }
 {
     let upright = RotationPreference::PreferUpright;
     let longer = GuillotineSplitHeuristic::LongerAxis;
@@ -105,12 +105,27 @@ pub fn heuristic_variants() -> HeuristicRows
     }
 }
 
+// Row k, and the source's default where there is none.
+fn heuristic_at(rows: HeuristicRows, k: usize) -> BaselineGuillotineHeuristic
+    requires { ⌜ rows .count ≤ 8 ⌝ }
+    ensures { λ r. ⌜ r ≡ getD (rowsOf rows) k (defaultHeuristic []) ⌝ }
+{
+    if k < rows.count {
+        return rows.rows[k];
+    }
+    row(
+        GuillotineRectChoice::Area,
+        GuillotineSplitHeuristic::Horizontal,
+        RotationPreference::PreferUpright,
+    )
+}
+
 // default_heuristic: the first row.
 pub fn default_heuristic(rows: HeuristicRows) -> BaselineGuillotineHeuristic
-    requires { ⌜ HasRows rows ⌝ }
+    requires { ⌜ rows .count ≤ 8 ⌝ }
     ensures { λ r. ⌜ r ≡ defaultHeuristic (rowsOf rows) ⌝ }
 {
-    rows.rows[0]
+    heuristic_at(rows, 0)
 }
 
 // ---- seeds
@@ -120,13 +135,15 @@ fn sorted_seeds(rows: HeuristicRows, n: SearchNumbers) -> usize
     ensures { λ r. ⌜ r ≡ sortedSeeds rows n ⌝ }
 {
     if n.variants {
-        return rows.count;
+        if 1 < rows.count {
+            return rows.count;
+        }
     }
     1
 }
 
 pub fn seed_count(rows: HeuristicRows, n: SearchNumbers) -> usize
-    requires { ⌜ HasRows rows × (n .shuffles ≤ 24) ⌝ }
+    requires { ⌜ (rows .count ≤ 8) × (n .shuffles ≤ 24) ⌝ }
     ensures { λ r. ⌜ ((cuts : List CutInstance) → r ≡ length (initialSeeds (rowsOf rows) cuts (numbersOf n))) × (r ≤ 32) ⌝ }
 {
     sorted_seeds(rows, n) + n.shuffles
@@ -150,12 +167,12 @@ pub fn initial_candidate_seed(
     n: SearchNumbers,
     k: usize,
 ) -> CandidateSeed
-    requires { ⌜ HasRows rows × (cuts ≤ 64) × (k < sortedSeeds rows n + n .shuffles) ⌝ }
+    requires { ⌜ (rows .count ≤ 8) × (cuts ≤ 64) × (k < sortedSeeds rows n + n .shuffles) ⌝ }
     ensures { λ r. ⌜ ((inst : ProblemInstance) → length (inst .cuts) ≡ cuts → InOrder inst sorted → IsSeed (rowsOf rows) inst (numbersOf n) k r) ⌝ }
 {
     let first = sorted_seeds(rows, n);
     if k < first {
-        let h = rows.rows[k];
+        let h = heuristic_at(rows, k);
         return CandidateSeed {
             cut_order: sorted,
             heuristic: h,
@@ -163,7 +180,7 @@ pub fn initial_candidate_seed(
     }
     let seed = std::num::wrapping_add_u64(n.first_seed, (k - first) as u64);
     let order = shuffled_order(sorted, cuts, seed);
-    let h = rows.rows[0];
+    let h = heuristic_at(rows, 0);
     CandidateSeed {
         cut_order: order,
         heuristic: h,

@@ -38,7 +38,7 @@ returns : tie.Need-returns
 unfolding rowsOf heuristicVariants
 returns c = (
   λ i. c .before .before .before .before .row .ensures i ∷ c .before .before .before .row2 .ensures i ∷ c .before .before .row3 .ensures i ∷ c .before .row4 .ensures i ∷ c .row5 .ensures i ∷ [],
-  record { one = omega arith; few = omega arith },
+  omega arith,
 )
 
 pub heuristic-variants-spec : {M : Type 1} → statement M

@@ -16,24 +16,15 @@ use Rattle.seeds.proofs.initial_candidate_seed.Tie as tie
 sorted-seeds-requires : tie.Need-sorted-seeds-requires
 sorted-seeds-requires c κs = search needs
 
-mul-h : tie.Need-mul-h
-mul-h c =
-    let s = c .before .before in
-    let size : length (c .before .before .args .t3 .rows) ≡ 8 = search counted in
-    omega (arith, c .before .sorted-seeds .ensures, sorted-most (s .args .t3) (s .args .n) (s .pre .0) size)
-
-element-copy-out-h : tie.Need-element-copy-out-h
-element-copy-out-h c =
-    let s = c .before .before in
-    let size : length (c .before .before .args .t3 .rows) ≡ 8 = search counted in
-    omega (arith, c .before .sorted-seeds .ensures, sorted-most (s .args .t3) (s .args .n) (s .pre .0) size)
+heuristic-at-requires : tie.Need-heuristic-at-requires
+heuristic-at-requires c κs = search needs
 
 returns : tie.Need-returns
 returns c =
     let s = c .before .before .before in
-    let size : length (c .before .before .before .args .t3 .rows) ≡ 8 = search counted in
-    let front : s .args .k < sortedSeeds (s .args .t3) (s .args .n) = omega (arith, c .before .before .sorted-seeds .ensures, c .before .if1 .taken) in
-    λ inst e o. is-sorted (s .args .t3) (s .args .n) (s .pre .0) size inst (s .args .sorted) o (s .args .k) _ front
+    let size : length (c .before .before .before .args .rows .rows) ≡ 8 = search counted in
+    let front : s .args .k < sortedSeeds (s .args .rows) (s .args .n) = omega (arith, c .before .before .sorted-seeds .ensures, c .before .if1 .taken) in
+    λ inst e o. is-sorted (s .args .rows) (s .args .n) (s .pre .0) size inst (s .args .sorted) o (s .args .k) _ front (c .heuristic-at .ensures)
 
 wrapping-add-u64-requires : tie.Need-wrapping-add-u64-requires
 wrapping-add-u64-requires c κs = search needs
@@ -41,19 +32,19 @@ wrapping-add-u64-requires c κs = search needs
 shuffled-order-requires : tie.Need-shuffled-order-requires
 shuffled-order-requires c κs = search needs
 
-element-copy-out-h-2 : tie.Need-element-copy-out-h-2
-element-copy-out-h-2 c = search needs
+heuristic-at-requires-2 : tie.Need-heuristic-at-requires-2
+heuristic-at-requires-2 c κs = search needs
 
 returns-2 : tie.Need-returns-2
 returns-2 c =
     let s = c .before .before .before .before .before in
-    let size : length (c .before .before .before .before .before .args .t3 .rows) ≡ 8 = search counted in
-    let first : c .before .before .before .before .sorted-seeds .result ≡ sortedSeeds (s .args .t3) (s .args .n) = c .before .before .before .before .sorted-seeds .ensures in
-    let behind : sortedSeeds (s .args .t3) (s .args .n) ≤ s .args .k = omega (arith, first, c .before .before .before .if1 .left) in
-    let seed : c .before .before .wrapping-add-u64 .result ≡ wrap (s .args .n .«first_seed» + (s .args .k - sortedSeeds (s .args .t3) (s .args .n))) =
+    let size : length (c .before .before .before .before .before .args .rows .rows) ≡ 8 = search counted in
+    let first : c .before .before .before .before .sorted-seeds .result ≡ sortedSeeds (s .args .rows) (s .args .n) = c .before .before .before .before .sorted-seeds .ensures in
+    let behind : sortedSeeds (s .args .rows) (s .args .n) ≤ s .args .k = omega (arith, first, c .before .before .before .if1 .left) in
+    let seed : c .before .before .wrapping-add-u64 .result ≡ wrap (s .args .n .«first_seed» + (s .args .k - sortedSeeds (s .args .rows) (s .args .n))) =
     c .before .before .wrapping-add-u64 .ensures ∙ ap (λ (f : ℕ). wrap (s .args .n .«first_seed» + (s .args .k - f))) first
     in
-    λ inst e o. is-shuffled (s .args .t3) (s .args .n) (s .pre .0) size inst (s .args .sorted) o (s .args .k) _ (c .before .before .wrapping-add-u64 .result) (c .before .shuffled-order .result) behind (s .pre .2) seed
+    λ inst e o. is-shuffled (s .args .rows) (s .args .n) (s .pre .0) size inst (s .args .sorted) o (s .args .k) _ (c .before .before .wrapping-add-u64 .result) (c .before .shuffled-order .result) behind (s .pre .2) seed (c .heuristic-at2 .ensures)
     (c .before .shuffled-order .ensures ∙ ap (λ (m : ℕ). shuffled 0 (c .before .before .wrapping-add-u64 .result) (take m (s .args .sorted)) ++ drop m (s .args .sorted)) (sym e))
 
 pub initial-candidate-seed-spec : {M : Type 1} → statement M
@@ -61,10 +52,9 @@ initial-candidate-seed-spec =
     tie.close
     (tie.spec
     sorted-seeds-requires
-    mul-h
-    element-copy-out-h
+    heuristic-at-requires
     returns
     wrapping-add-u64-requires
     shuffled-order-requires
-    element-copy-out-h-2
+    heuristic-at-requires-2
     returns-2)
