@@ -9,7 +9,7 @@ use mathlib.Core.Option.{Option, some}
 use lib.ListN.{length, getD, take}
 use lib.Seq.{getD-take}
 use lib.Ieee.{Float}
-use Rattle.lists.specs.Base.{if_then_else_, isLess, isGreater, countFrom, range, enumerate, keepBest, firstBest}
+use Rattle.lists.specs.Base.{if_then_else_, isGreater, countFrom, range, enumerate, keepBest, firstBest}
 use Rattle.lists.proofs.Every.{all-any}
 use Rattle.lists.proofs.Counts.{range-below, enumerate-range, values}
 use Rattle.lists.proofs.Maps.{firstBest-map, getD-map}
@@ -20,7 +20,7 @@ use Rattle.model.specs.Search.{bestDonorBin}
 use Rattle.fitness.specs.Areas.{shareOf}
 use Rattle.fitness.proofs.Sheets.{boardArea, sheetFitness-areas}
 use Rattle.evaluation.specs.declared.Areas.{Areas}
-use Rattle.evaluation.specs.OnSheets.{AreasOf, shareAt, noBin, IsWorst, bestDonor, IsBestDonor}
+use Rattle.evaluation.specs.OnSheets.{AreasOf, shareAt, noBin, better, IsFirstBest, IsWorst, bestDonor, IsBestDonor}
 
 -- ---- the loop over the sheets
 
@@ -91,13 +91,13 @@ module _ (areas : Areas) (bins : List GuillotineSheet) (of : AreasOf areas bins)
       ∙ firstBest-map at (λ i j. better (shareAt areas i) (shareAt areas j)) (bySheet better) (λ i. i < length bins)
       (λ i j h l. ap₂ better (share-fitness i h) (share-fitness j l)) (range (length bins)) k (range-below (length bins)) e
 
-  pub worst-index : (k : ℕ) → k < length bins → firstBest (λ i j. isLess (compareFloat (shareAt areas i) (shareAt areas j))) (range (length bins)) ≡ some k → IsWorst bins k
+  pub worst-index : (k : ℕ) → IsFirstBest areas (length bins) false k → IsWorst bins k
   unfolding worstBin
-  worst-index k h e = (h, best-sheet (λ x y. isLess (compareFloat x y)) k e)
+  worst-index k f = (f .0, best-sheet (better false) k (f .1))
 
-  pub donor-index : (k : ℕ) → k < length bins → firstBest (λ i j. isGreater (compareFloat (shareAt areas i) (shareAt areas j))) (range (length bins)) ≡ some k → IsBestDonor bins k
+  pub donor-index : (k : ℕ) → IsFirstBest areas (length bins) true k → IsBestDonor bins k
   unfolding bestDonor
-  donor-index k h e = (h, best-sheet (λ x y. isGreater (compareFloat x y)) k e)
+  donor-index k f = (f .0, best-sheet (better true) k (f .1))
 
 -- the definition's donor has no index
 pub donor-bin : (donor : Candidate) (k : ℕ) → IsBestDonor (donor .bins) k → bestDonorBin donor ≡ some (getD (donor .bins) k noBin)

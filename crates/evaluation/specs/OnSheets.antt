@@ -1,11 +1,12 @@
 -- The areas of a candidate's sheets, and the sheet that is first best by them.
 use Prim.Native.Nat.{ℕ, _+_, _*_, _≤_, _<_}
 use mathlib.Core.Path.{_≡_}
+use mathlib.Core.Bool.{Bool}
 use mathlib.Core.List.{List, map}
 use mathlib.Core.Option.{Option, some}
 use lib.ListN.{length, getD, take}
 use lib.Ieee.{Float}
-use Rattle.lists.specs.Base.{sum, isGreater, enumerate, firstBest}
+use Rattle.lists.specs.Base.{if_then_else_, sum, isLess, isGreater, range, enumerate, firstBest}
 use Rattle.model.specs.Types.{cutArea, stockArea}
 use Rattle.model.specs.Sheet.{GuillotineSheet, newSheet, placedArea}
 use Rattle.model.specs.Fitness.{sheetFitness, compareFloat}
@@ -42,6 +43,14 @@ pub record AreasOf (areas : Areas) (bins : List GuillotineSheet) : Type 0 where
 -- the fitness of sheet k
 abbrev pub shareAt : Areas → ℕ → Float
 shareAt areas k = shareOf (getD (areas .placed) k 0) (getD (areas .stock) k 0)
+
+-- the fitter of two, or the less fit
+abbrev pub better : Bool → Float → Float → Bool
+better fittest x y = if fittest then isGreater (compareFloat x y) else isLess (compareFloat x y)
+
+-- of so many sheets the one at that index is the first best
+abbrev pub IsFirstBest : Areas → ℕ → Bool → ℕ → Type 0
+IsFirstBest areas sheets fittest k = (k < sheets) × (firstBest (λ i j. better fittest (shareAt areas i) (shareAt areas j)) (range sheets) ≡ some k)
 
 abbrev pub noBin : GuillotineSheet
 noBin = newSheet noStock

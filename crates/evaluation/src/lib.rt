@@ -16,7 +16,7 @@ ghost use Rattle.trust.proofs.Winner.{Admitted};
 ghost use Rattle.fitness.specs.Scores.{scoreOf};
 ghost use Rattle.candidate.specs.Entries.{cutOf};
 ghost use Rattle.candidate.specs.Stands.{instanceIn, Tables, candidateIn, Stands, placedWords};
-ghost use Rattle.evaluation.specs.OnSheets.{wordArea, placedOn, InTables, AreasOf, IsWorst, IsBestDonor, scoreIn};
+ghost use Rattle.evaluation.specs.OnSheets.{wordArea, placedOn, InTables, AreasOf, better, IsFirstBest, IsWorst, IsBestDonor, scoreIn};
 ghost use Rattle.evaluation.specs.Keys.{elem, repeats};
 
 // ---- areas and fitness of the sheets
@@ -67,23 +67,41 @@ pub fn sheet_areas(stock: &[u32], cuts: &[u32], inst: Instance, c: Candidate) ->
     }
 }
 
+// Whether a sheet of fitness `f` takes the place of the best so far: the fitter of two, or the less fit.
+fn is_better(fittest: bool, f: f64, best: f64) -> bool
+    ensures { λ r. ⌜ r ≡ better fittest f best ⌝ }
+{
+    if fittest {
+        return fitness::is_fitter(f, best);
+    }
+    fitness::is_less_fit(f, best)
+}
+
+// The first fittest sheet, or the first least fit one.
+fn first_best(areas: Areas, sheets: usize, fittest: bool) -> usize
+    requires { ⌜ (0 < sheets) × (sheets ≤ 64) ⌝ }
+    ensures { λ r. ⌜ IsFirstBest areas sheets fittest r ⌝ }
+{
+    let mut best: usize = 0;
+    let mut held = fitness::sheet_fitness(areas.placed[0], areas.stock[0]);
+    let mut k: usize = 1;
+    while k < sheets {
+        let f = fitness::sheet_fitness(areas.placed[k], areas.stock[k]);
+        if is_better(fittest, f, held) {
+            best = k;
+            held = f;
+        }
+        k += 1;
+    }
+    best
+}
+
 // The first least fit sheet.
 pub fn worst_bin_index(areas: Areas, sheets: usize) -> usize
     requires { ⌜ (0 < sheets) × (sheets ≤ 64) ⌝ }
     ensures { λ r. ⌜ ((bins : List GuillotineSheet) → length bins ≡ sheets → AreasOf areas bins → IsWorst bins r) ⌝ }
 {
-    let mut worst: usize = 0;
-    let mut least = fitness::sheet_fitness(areas.placed[0], areas.stock[0]);
-    let mut k: usize = 1;
-    while k < sheets {
-        let f = fitness::sheet_fitness(areas.placed[k], areas.stock[k]);
-        if fitness::is_less_fit(f, least) {
-            worst = k;
-            least = f;
-        }
-        k += 1;
-    }
-    worst
+    first_best(areas, sheets, false)
 }
 
 // The first fittest sheet.
@@ -91,18 +109,7 @@ pub fn best_donor_bin_index(areas: Areas, sheets: usize) -> usize
     requires { ⌜ (0 < sheets) × (sheets ≤ 64) ⌝ }
     ensures { λ r. ⌜ ((bins : List GuillotineSheet) → length bins ≡ sheets → AreasOf areas bins → IsBestDonor bins r) ⌝ }
 {
-    let mut best: usize = 0;
-    let mut most = fitness::sheet_fitness(areas.placed[0], areas.stock[0]);
-    let mut k: usize = 1;
-    while k < sheets {
-        let f = fitness::sheet_fitness(areas.placed[k], areas.stock[k]);
-        if fitness::is_fitter(f, most) {
-            best = k;
-            most = f;
-        }
-        k += 1;
-    }
-    best
+    first_best(areas, sheets, true)
 }
 
 // ---- validity and score
