@@ -26,12 +26,12 @@ use Rattle.fits.specs.declared.Score.{Score}
 use Rattle.free_rects.specs.Bounds.{Small, Inside}
 use Rattle.free_rects.proofs.Remainders.{split-small, swap-small}
 use Rattle.free_rects.proofs.Rounds.{rounds-small}
-use Rattle.guillotine.specs.declared.BestFit.the-variants as best
+use Rattle.best_place.specs.declared.BestFit.the-variants as best
 use Rattle.guillotine.specs.declared.Inserted.the-variants as inserted
-use Rattle.guillotine.specs.SheetWords.{rectsIn, withRects, Shows, mostRects, blockWords}
-use Rattle.guillotine.specs.Places.{placeAt, FindsBest}
+use Rattle.rect_words.specs.SheetWords.{rectsIn, withRects, Shows, mostRects, blockWords}
+use Rattle.best_place.specs.Places.{placeAt, FindsBest}
 use Rattle.guillotine.specs.Insertions.{Ready, Insertable, At, splitBy, Replaces, InsertsInto, Inserts}
-use Rattle.guillotine.proofs.Words.{rects-with, length-with, count-with}
+use Rattle.rect_words.proofs.Words.{rects-with, length-with, count-with}
 
 -- ---- what the answer of the search says
 

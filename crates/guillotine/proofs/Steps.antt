@@ -26,9 +26,9 @@ use Rattle.free_rects.specs.Merging.{Scannable, MergesTo}
 use Rattle.free_rects.proofs.Remainders.{split-small, swap-small}
 use Rattle.free_rects.proofs.Apart.{swap-apart}
 use Rattle.free_rects.proofs.Rounds.{rounds-stop}
-use Rattle.guillotine.specs.SheetWords.{rectsIn, withRects}
+use Rattle.rect_words.specs.SheetWords.{rectsIn, withRects}
 use Rattle.guillotine.specs.Insertions.{splitBy, Insertable, At, Replaces}
-use Rattle.guillotine.proofs.Words.{length-rects}
+use Rattle.rect_words.proofs.Words.{length-rects}
 
 -- where no pair merges the rectangles stay as they are
 none-merged : (kerf : ℕ) (l : List Rect) → mergesAny kerf l ≡ false → mergeFreeRects kerf l ≡ l

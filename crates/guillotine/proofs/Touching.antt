@@ -20,9 +20,9 @@ use Rattle.free_rects.specs.declared.Remainder.{Remainder}
 use Rattle.free_rects.specs.declared.Remainder.the-variants.{Nothing, One}
 use Rattle.free_rects.specs.FreeList.{remainderOf}
 use Rattle.free_rects.proofs.Apart.{Apart, first-apart, apart-first, swap-apart}
-use Rattle.guillotine.specs.SheetWords.{rectAt, rectsIn}
+use Rattle.rect_words.specs.SheetWords.{rectAt, rectsIn}
 use Rattle.guillotine.specs.Insertions.{touches, touchesAny, others}
-use Rattle.guillotine.proofs.Words.{length-rects, get-rects}
+use Rattle.rect_words.proofs.Words.{length-rects, get-rects}
 
 -- ---- the loop over a range of the rectangles
 

@@ -20,8 +20,8 @@ use Rattle.model.specs.Sheet.{GuillotineSheet, Insertion, Place, bestPlace, spl
 use Rattle.free_rects.specs.Bounds.{Small}
 use Rattle.guillotine.specs.declared.Inserted.{Inserted}
 use Rattle.guillotine.specs.declared.Inserted.the-variants as inserted
-use Rattle.guillotine.specs.SheetWords.{rectsIn, withRects, mostRects, blockWords, Shows}
-use Rattle.guillotine.specs.Places.{placeAt}
+use Rattle.rect_words.specs.SheetWords.{rectsIn, withRects, mostRects, blockWords, Shows}
+use Rattle.best_place.specs.Places.{placeAt}
 
 -- ---- what an insertion needs
 

@@ -1,3 +1,1 @@
-pub mod SheetWords
-pub mod Places
 pub mod Insertions

@@ -15,8 +15,8 @@ use Rattle.model.specs.Sheet.{GuillotineSheet, Insertion, newSheet, tryInsert}
 use Rattle.model.specs.Expand.{ProblemInstance}
 use Rattle.trust.proofs.Ranges.{BoardRange, Ranged}
 use Rattle.orders.specs.Rows.{cutWords, stockAt, cutAt}
-use Rattle.guillotine.specs.SheetWords.{rectsIn}
-use Rattle.guillotine.proofs.Words.{length-rects}
+use Rattle.rect_words.specs.SheetWords.{rectsIn}
+use Rattle.rect_words.proofs.Words.{length-rects}
 use Rattle.candidate.specs.declared.Instance.{Instance}
 use Rattle.candidate.specs.declared.Candidate.{Candidate as Words}
 use Rattle.candidate.specs.Moves.{firstFitIn, takePlace}

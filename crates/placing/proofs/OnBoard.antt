@@ -14,7 +14,7 @@ use Rattle.model.specs.declared.CutInstance.{CutInstance}
 use Rattle.model.specs.Types.{rect}
 use Rattle.model.specs.Sheet.{GuillotineSheet, Insertion, Place, newSheet, bestPlace, insertAt, tryInsert}
 use Rattle.guillotine.specs.declared.Inserted.{Inserted}
-use Rattle.guillotine.specs.SheetWords.{withRects, Shows}
+use Rattle.rect_words.specs.SheetWords.{withRects, Shows}
 use Rattle.guillotine.specs.Insertions.{placeIn, Inserts, Insertable}
 use Rattle.placing.specs.Blocks.{blockOf, withBlock, withBin}
 use Rattle.placing.specs.Fitting.{InsertsOnBoard}

@@ -14,7 +14,7 @@ use Rattle.model.specs.Sheet.{newSheet, rebuild}
 use Rattle.model.specs.Expand.{ProblemInstance}
 use Rattle.trust.proofs.Ranges.{Ranged}
 use Rattle.orders.specs.Rows.{stockAt}
-use Rattle.guillotine.specs.SheetWords.{rectsIn}
+use Rattle.rect_words.specs.SheetWords.{rectsIn}
 use Rattle.candidate.specs.declared.Instance.{Instance}
 use Rattle.candidate.specs.declared.Candidate.{Candidate as Words}
 use Rattle.candidate.specs.Entries.{boardOf, cutOf, onBoard}

@@ -17,7 +17,7 @@ use Rattle.lists.proofs.Options.{none-by}
 use Rattle.model.specs.declared.StockInstance.{StockInstance}
 use Rattle.model.specs.Sheet.{GuillotineSheet, Insertion, newSheet, tryInsert}
 use Rattle.orders.specs.Rows.{stockWords, stockAt}
-use Rattle.guillotine.specs.SheetWords.{rectsIn, withRects, Shows}
+use Rattle.rect_words.specs.SheetWords.{rectsIn, withRects, Shows}
 use Rattle.guillotine.specs.Insertions.{Ready}
 use Rattle.guillotine.proofs.Sheets.{new-ready}
 use Rattle.candidate.proofs.Lists.{Other}

@@ -7,9 +7,9 @@ use lib.ListN.{length}
 use Rattle.model.specs.declared.StockInstance.{StockInstance}
 use Rattle.model.specs.Types.{stockRect}
 use Rattle.model.specs.Sheet.{GuillotineSheet, newSheet}
-use Rattle.guillotine.specs.SheetWords.{rectsIn, withRects, Shows}
+use Rattle.rect_words.specs.SheetWords.{rectsIn, withRects, Shows}
 use Rattle.guillotine.specs.Insertions.{Ready}
-use Rattle.guillotine.proofs.Words.{rects-with, length-with}
+use Rattle.rect_words.proofs.Words.{rects-with, length-with}
 use Rattle.guillotine.proofs.Sheets.{shows-with, insertable-with}
 use Rattle.candidate.proofs.Lists.{Other}
 use Rattle.placing.specs.Blocks.{blockOf, withBin, behindBlocks}

@@ -6,7 +6,7 @@ use lib.ListN.{length, take, drop}
 use Rattle.lists.proofs.Perm.{All}
 use Rattle.model.specs.Sheet.{GuillotineSheet}
 use Rattle.model.specs.Expand.{ProblemInstance}
-use Rattle.guillotine.specs.SheetWords.{rectsIn, withRects}
+use Rattle.rect_words.specs.SheetWords.{rectsIn, withRects}
 use Rattle.candidate.specs.declared.Candidate.{Candidate as Words}
 use Rattle.candidate.specs.Stands.{binIn, sheetBoards, placedWords}
 

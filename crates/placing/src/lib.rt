@@ -58,7 +58,7 @@ fn open_board(free: &mut [u32], stock: StockInstance, board: usize)
 {
     let at = BLOCK * board;
     let end = at + BLOCK;
-    guillotine::new_sheet(&mut free[at..end], stock.width, stock.length)
+    rect_words::new_sheet(&mut free[at..end], stock.width, stock.length)
 }
 
 // A board that is no sheet's yet is made bare before it is tried.

@@ -17,8 +17,8 @@ use Rattle.trust.specs.Limits.{mostArea}
 use Rattle.trust.proofs.Bounded.{Bounded, placed-most, board-area-most}
 use Rattle.trust.proofs.RoundTrip.{sheet-length, waste-size, pieces-size}
 use Rattle.trust.proofs.PlanRange.{saw-range}
-use Rattle.guillotine.specs.SheetWords.{rectsIn, Block}
-use Rattle.guillotine.proofs.Words.{length-rects}
+use Rattle.rect_words.specs.SheetWords.{rectsIn, Block}
+use Rattle.rect_words.proofs.Words.{length-rects}
 use Rattle.guide.specs.Words.{Sawn, Sawable}
 use Rattle.guide.proofs.Guides.{holds-fits}
 use Rattle.sheet_plan.specs.declared.Progress.{Progress}

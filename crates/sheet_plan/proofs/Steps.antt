@@ -25,10 +25,10 @@ use Rattle.trust.proofs.Bounded.{Bounded, tryInsert-bounded, placed-most, board
 use Rattle.trust.proofs.RoundTrip.{pieces-size}
 use Rattle.guillotine.specs.declared.Inserted.{Inserted}
 use Rattle.guillotine.specs.declared.Inserted.the-variants as inserted
-use Rattle.guillotine.specs.SheetWords.{withRects, Shows}
-use Rattle.guillotine.specs.Places.{placeAt}
+use Rattle.rect_words.specs.SheetWords.{withRects, Shows}
+use Rattle.best_place.specs.Places.{placeAt}
 use Rattle.guillotine.specs.Insertions.{Insertable, InsertsInto}
-use Rattle.guillotine.proofs.Words.{rects-with, length-rects}
+use Rattle.rect_words.proofs.Words.{rects-with, length-rects}
 use Rattle.guillotine.proofs.Sheets.{new-shows, new-ready, inserts-nothing, Placed, inserts-at}
 use Rattle.guide.specs.Words.{Became}
 use Rattle.guide.proofs.Guides.{became-holds}

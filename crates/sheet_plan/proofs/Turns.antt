@@ -23,7 +23,7 @@ use Rattle.trust.proofs.Ranges.{PanelRange, Ranged}
 use Rattle.trust.proofs.Bounded.{Bounded}
 use Rattle.guillotine.specs.declared.Inserted.{Inserted}
 use Rattle.guillotine.specs.declared.Inserted.the-variants as inserted
-use Rattle.guillotine.specs.SheetWords.{Shows}
+use Rattle.rect_words.specs.SheetWords.{Shows}
 use Rattle.guillotine.specs.Insertions.{Insertable, InsertsInto, Inserts}
 use Rattle.candidate.specs.Entries.{boardOf, cutOf, rowOf}
 use Rattle.candidate.specs.Stands.{boardIn, cutIn, insertionIn, binIn, noCut}

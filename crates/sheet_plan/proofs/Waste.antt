@@ -10,7 +10,7 @@ use Rattle.lists.specs.Base.{countFrom, concatMap}
 use Rattle.lists.specs.Parts.{patch}
 use Rattle.lists.proofs.Parts.{paste-patch}
 use Rattle.model.specs.Plan.{rectWords}
-use Rattle.guillotine.specs.SheetWords.{rectAt, rectsIn}
+use Rattle.rect_words.specs.SheetWords.{rectAt, rectsIn}
 
 -- four words from an index on
 module _ (w : List ℕ) where

@@ -21,7 +21,7 @@ use Rattle.model.specs.Expand.{ProblemInstance}
 use Rattle.model.specs.Plan.{pieceWords, sheetWords}
 use Rattle.trust.proofs.Ranges.{BoardRange}
 use Rattle.trust.proofs.Bounded.{Bounded}
-use Rattle.guillotine.specs.SheetWords.{rectsIn, Shows}
+use Rattle.rect_words.specs.SheetWords.{rectsIn, Shows}
 use Rattle.guillotine.specs.Insertions.{Ready}
 use Rattle.guide.specs.Words.{Holds, Guided, InCorner, Becomes, nextGuide}
 use Rattle.candidate.specs.Entries.{cutOf}

@@ -18,7 +18,7 @@ ghost use Rattle.model.specs.declared.BaselineGuillotineHeuristic.{BaselineGuil
 ghost use Rattle.model.specs.Types.{patternCode, flagCode};
 ghost use Rattle.model.specs.Sheet.{newSheet};
 ghost use Rattle.model.specs.Plan.{rectWords, pieceWords, sheetWords};
-ghost use Rattle.guillotine.specs.SheetWords.{rectsIn, Block};
+ghost use Rattle.rect_words.specs.SheetWords.{rectsIn, Block};
 ghost use Rattle.candidate.specs.Stands.{instanceIn, Tables, binIn};
 ghost use Rattle.sheet_plan.specs.Rows.{piece, headWords};
 ghost use Rattle.sheet_plan.specs.Replaying.{Replayed, Boardable, Rebuildable, Takeable, Takes, ReplaysWord, ReplaysSheet, WritesSheet, Finishable, Finishes};
@@ -167,7 +167,7 @@ fn bare_board(
         width: stock.width,
         length: stock.length,
     };
-    guillotine::new_sheet(rects, stock.width, stock.length);
+    rect_words::new_sheet(rects, stock.width, stock.length);
     let nodes = guide::new_guide(guide, board);
     Progress {
         pieces: 0,

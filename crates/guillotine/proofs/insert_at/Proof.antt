@@ -4,7 +4,7 @@ use native.Mathlib.Omega.{arith}
 use denote.Ref.{now}
 use borrow.Author.Needs.{needs}
 use Rattle.guillotine.proofs.Steps.{small-rect, small-parts, unmerged}
-use Rattle.guillotine.proofs.Words.{length-rects}
+use Rattle.rect_words.proofs.Words.{length-rects}
 use Rattle.guillotine.proofs.insert_at.Statement.{statement}
 use Rattle.guillotine.proofs.insert_at.Tie as tie
 

@@ -5,9 +5,9 @@ use native.Mathlib.Omega.{arith}
 use denote.Ref.{now}
 use lib.ListN.{length}
 use borrow.Author.Needs.{needs}
-use Rattle.guillotine.specs.SheetWords.{rectsIn}
+use Rattle.rect_words.specs.SheetWords.{rectsIn}
 use Rattle.guillotine.proofs.Touching.{touches-merges}
-use Rattle.guillotine.proofs.Words.{length-rects}
+use Rattle.rect_words.proofs.Words.{length-rects}
 use Rattle.guillotine.proofs.merges_any.Statement.{statement}
 use Rattle.guillotine.proofs.merges_any.Tie as tie
 

@@ -9,9 +9,9 @@ use Rattle.lists.proofs.Every.{all-get}
 use Rattle.model.specs.Types.{noRect}
 use Rattle.free_rects.specs.Bounds.{Small}
 use Rattle.guillotine.specs.Insertions.{touches}
-use Rattle.guillotine.specs.SheetWords.{rectsIn}
+use Rattle.rect_words.specs.SheetWords.{rectsIn}
 use Rattle.guillotine.proofs.Touching.{touch-hit, touch-miss, touch-end}
-use Rattle.guillotine.proofs.Words.{length-rects, get-rects}
+use Rattle.rect_words.proofs.Words.{length-rects, get-rects}
 use Rattle.guillotine.proofs.touches_between.Statement.{statement}
 use Rattle.guillotine.proofs.touches_between.Tie as tie
 

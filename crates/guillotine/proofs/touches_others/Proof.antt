@@ -10,9 +10,9 @@ use borrow.Author.Needs.{needs}
 use Rattle.lists.specs.Base.{any}
 use Rattle.model.specs.declared.Rect.{Rect}
 use Rattle.guillotine.specs.Insertions.{touches, touchesAny}
-use Rattle.guillotine.specs.SheetWords.{rectsIn}
+use Rattle.rect_words.specs.SheetWords.{rectsIn}
 use Rattle.guillotine.proofs.Touching.{touches-one}
-use Rattle.guillotine.proofs.Words.{length-rects}
+use Rattle.rect_words.proofs.Words.{length-rects}
 use Rattle.guillotine.proofs.touches_others.Statement.{statement}
 use Rattle.guillotine.proofs.touches_others.Tie as tie
 

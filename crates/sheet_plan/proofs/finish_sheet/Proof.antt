@@ -4,7 +4,7 @@ use mathlib.Core.Path.{_≡_, sym, ap, _∙_}
 use lib.ListN.{getD}
 use Rattle.model.specs.declared.StockInstance.{StockInstance}
 use Rattle.model.specs.Types.{stockArea}
-use Rattle.guillotine.proofs.Words.{length-rects}
+use Rattle.rect_words.proofs.Words.{length-rects}
 use Rattle.sheet_plan.proofs.Bodies.{body-length, finished, Sizes, sizes}
 use borrow.Author.Needs.{needs}
 use Rattle.sheet_plan.proofs.finish_sheet.Statement.{statement}

@@ -5,7 +5,7 @@ use mathlib.Core.Path.{_≡_, refl, sym, _∙_}
 use mathlib.Core.List.{List}
 use lib.ListN.{length, getD, drop, length-set}
 use lib.Seq.{paste, paste-zero}
-use Rattle.guillotine.proofs.Words.{length-rects}
+use Rattle.rect_words.proofs.Words.{length-rects}
 use Rattle.sheet_plan.proofs.Waste.{waste-turn, waste-end}
 use borrow.Author.Needs.{needs}
 use Rattle.sheet_plan.proofs.put_waste.Statement.{statement}

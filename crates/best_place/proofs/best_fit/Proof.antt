@@ -1,0 +1,46 @@
+-- `guillotine::best_fit` meets its contract: from the first rectangle in which the cut fits, or nothing.
+use native.Mathlib.Omega.{arith}
+use denote.Ref.{now}
+use borrow.Author.Needs.{needs}
+use Rattle.best_place.proofs.Search.{search-all, search-none}
+use Rattle.best_place.proofs.best_fit.Statement.{statement}
+use Rattle.best_place.proofs.best_fit.Tie as tie
+
+ways-to-lie-requires : tie.Need-ways-to-lie-requires
+ways-to-lie-requires c κs = search needs
+
+next-fit-requires : tie.Need-next-fit-requires
+next-fit-requires c κs = search needs
+
+shared-slice-read-wide : tie.Need-shared-slice-read-wide
+shared-slice-read-wide c = search needs
+
+wide-requires : tie.Need-wide-requires
+wide-requires c κs = search needs
+
+best-fit-from-requires : tie.Need-best-fit-from-requires
+best-fit-from-requires c κs = search needs
+
+returns : tie.Need-returns
+returns c =
+    let a = c .before .before .before .before .before .before .before .args in
+    search-all (now (a .sheet)) (c .before .before .before .before .before .ways-to-lie .result) (a .cut) (a .heuristic) (a .stock-pattern) (c .before .before .before .before .next-fit .result) _ (c .before .before .before .before .before .ways-to-lie .ensures) (c .before .before .before .before .next-fit .ensures)
+    (c .best-fit-from .ensures)
+
+returns-2 : tie.Need-returns-2
+returns-2 c =
+    let a = c .before .before .before .before .before .before .args in
+    search-all (now (a .sheet)) (c .before .before .before .before .ways-to-lie .result) (a .cut) (a .heuristic) (a .stock-pattern) (c .before .before .before .next-fit .result) _ (c .before .before .before .before .ways-to-lie .ensures) (c .before .before .before .next-fit .ensures)
+    (search-none (now (a .sheet)) (c .before .before .before .before .ways-to-lie .result) (a .cut) (a .heuristic) (c .before .before .before .next-fit .result) (omega (arith, c .if1 .left, c .before .wide .ensures)))
+
+pub best-fit-spec : {M : Type 1} → statement M
+best-fit-spec =
+    tie.close
+    (tie.spec
+    ways-to-lie-requires
+    next-fit-requires
+    shared-slice-read-wide
+    wide-requires
+    best-fit-from-requires
+    returns
+    returns-2)

@@ -1,0 +1,50 @@
+-- `guillotine::push_rect` meets its contract: a rectangle behind the last.
+use mathlib.Core.Path.{_∙_}
+use native.Mathlib.Omega.{arith}
+use denote.Ref.{now}
+use lib.ListN.{length-set}
+use borrow.Author.Needs.{needs}
+use Rattle.rect_words.proofs.Words.{push-words}
+use Rattle.rect_words.proofs.push_rect.Statement.{statement}
+use Rattle.rect_words.proofs.push_rect.Tie as tie
+
+slice-read-wide : tie.Need-slice-read-wide
+slice-read-wide c = search needs
+
+wide-requires : tie.Need-wide-requires
+wide-requires c κs = search needs
+
+add-sheet : tie.Need-add-sheet
+add-sheet c = search needs
+
+cast-sheet : tie.Need-cast-sheet
+cast-sheet c = search needs
+
+slice-write-sheet : tie.Need-slice-write-sheet
+slice-write-sheet c = search needs
+
+put-rect-requires : tie.Need-put-rect-requires
+put-rect-requires c κs = search needs
+
+same-length : tie.Need-same-length
+same-length c = c .before .before .put-rect .kept .0 ∙ simp length-set
+
+returns : tie.Need-returns
+returns c =
+    let a = c .before .before .before .before .before .before .before .args in
+    let w = now (a .sheet) in
+    let n = c .before .before .before .before .wide .ensures in
+    c .before .before .put-rect .ensures ∙ rw n (push-words w (a .rect) (omega (arith, c .before .before .before .before .before .before .before .pre .0 .room, c .before .before .before .before .before .before .before .pre .1)))
+
+pub push-rect-spec : {M : Type 1} → statement M
+push-rect-spec =
+    tie.close
+    (tie.spec
+    slice-read-wide
+    wide-requires
+    add-sheet
+    cast-sheet
+    slice-write-sheet
+    put-rect-requires
+    same-length
+    returns)

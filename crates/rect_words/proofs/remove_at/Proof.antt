@@ -1,0 +1,58 @@
+-- `guillotine::remove_at` meets its contract: the last rectangle in the place of another.
+use mathlib.Core.Path.{_≡_, _∙_}
+use Prim.Native.Nat.{suc, _-_}
+use native.Mathlib.Omega.{arith}
+use denote.Ref.{now}
+use lib.ListN.{getD, length-set}
+use borrow.Author.Needs.{needs}
+use Rattle.rect_words.proofs.Words.{remove-words}
+use Rattle.rect_words.proofs.remove_at.Statement.{statement}
+use Rattle.rect_words.proofs.remove_at.Tie as tie
+
+slice-read-wide : tie.Need-slice-read-wide
+slice-read-wide c = search needs
+
+wide-requires : tie.Need-wide-requires
+wide-requires c κs = search needs
+
+sub-last : tie.Need-sub-last
+sub-last c = search needs
+
+rect-at-requires : tie.Need-rect-at-requires
+rect-at-requires c κs = search needs
+
+cast-sheet : tie.Need-cast-sheet
+cast-sheet c = search needs
+
+slice-write-sheet : tie.Need-slice-write-sheet
+slice-write-sheet c = search needs
+
+put-rect-requires : tie.Need-put-rect-requires
+put-rect-requires c κs = simp length-set (omega (arith, c .before .before .before .before .before .before .pre .0 .room, c .before .before .before .before .before .before .pre .0 .few, c .before .before .before .before .before .before .pre .1))
+
+same-length : tie.Need-same-length
+same-length c = c .before .before .put-rect .kept .0 ∙ simp length-set
+
+returns : tie.Need-returns
+returns c =
+    let a = c .before .before .before .before .before .before .before .before .before .args in
+    let w = now (a .sheet) in
+    let n = c .before .before .before .before .before .before .wide .ensures in
+    let m = c .before .before .before .before .before .before .wide .result - 1 in
+    let more : getD w 0 0 ≡ suc m = omega (arith, n, c .before .before .before .before .before .before .before .before .before .pre .1) in
+    c .before .before .put-rect .ensures
+    ∙ rw (c .before .before .before .before .rect-at .ensures) (remove-words w m (a .index) more (omega (arith, c .before .before .before .before .before .before .before .before .before .pre .1)) (omega (arith, c .before .before .before .before .before .before .before .before .before .pre .0 .room, c .before .before .before .before .before .before .before .before .before .pre .0 .few)))
+
+pub remove-at-spec : {M : Type 1} → statement M
+remove-at-spec =
+    tie.close
+    (tie.spec
+    slice-read-wide
+    wide-requires
+    sub-last
+    rect-at-requires
+    cast-sheet
+    slice-write-sheet
+    put-rect-requires
+    same-length
+    returns)

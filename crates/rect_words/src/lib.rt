@@ -1,0 +1,150 @@
+// A sheet's free rectangles in lent words: read, written, and changed in place (`GuillotineSheet::new`, `swap_remove`, `push`).
+use free_rects::FreeRects;
+use free_rects::Remainder;
+use model::Rect;
+ghost use mathlib.Core.Path.{_≡_};
+ghost use mathlib.Core.List.{_∷_, [], _++_};
+ghost use Prim.Native.Nat.{_≤_, _<_};
+ghost use lib.ListN.{length, getD};
+ghost use Rattle.lists.specs.Base.{swapRemove};
+ghost use Rattle.model.specs.Types.{rect, noRect};
+ghost use Rattle.free_rects.specs.FreeList.{rectsOf, Holds, remainderOf};
+ghost use Rattle.rect_words.specs.SheetWords.{rectAt, rectsIn, putRect, putRects, withRects, mostRects, blockWords, Block};
+
+pub fn wide(word: u32) -> usize
+    ensures { λ r. ⌜ r ≡ word ⌝ }
+{
+    word as usize
+}
+
+// ---- rectangles in words
+
+pub fn rect_at(sheet: &[u32], index: usize) -> Rect
+    requires { ⌜ (index < mostRects) × (blockWords ≤ length (now sheet)) ⌝ }
+    ensures { λ r. ⌜ r ≡ rectAt (now (sheet .entry)) index ⌝ }
+{
+    let at = 4 * index + 1;
+    Rect {
+        x: sheet[at],
+        y: sheet[at + 1],
+        width: sheet[at + 2],
+        length: sheet[at + 3],
+    }
+}
+
+fn put_rect(sheet: &mut [u32], index: usize, rect: Rect)
+    requires { ⌜ (index < mostRects) × (blockWords ≤ length (now sheet)) ⌝ }
+    ensures { λ _. ⌜ now (sheet .exit) ≡ putRect (now (sheet .entry)) index rect ⌝ }
+{
+    let at = 4 * index + 1;
+    sheet[at] = rect.x;
+    sheet[at + 1] = rect.y;
+    sheet[at + 2] = rect.width;
+    sheet[at + 3] = rect.length;
+}
+
+// The free rectangles by value.
+pub fn load(sheet: &[u32]) -> FreeRects
+    requires { ⌜ Block (now sheet) ⌝ }
+    ensures { λ r. ⌜ Holds r (rectsIn (now (sheet .entry))) ⌝ }
+{
+    let none = Rect {
+        x: 0,
+        y: 0,
+        width: 0,
+        length: 0,
+    };
+    let count = wide(sheet[0]);
+    let rects = [none; 65];
+    let mut free = FreeRects {
+        rects: rects,
+        count: count,
+    };
+    let mut index: usize = 0;
+    while index < count {
+        let rect = rect_at(sheet, index);
+        free.rects[index] = rect;
+        index += 1;
+    }
+    free
+}
+
+fn store_rects(sheet: &mut [u32], free: FreeRects)
+    requires { ⌜ (free .count ≤ mostRects) × (blockWords ≤ length (now sheet)) ⌝ }
+    ensures { λ _. ⌜ now (sheet .exit) ≡ putRects (now (sheet .entry)) (rectsOf free) ⌝ }
+{
+    let count = free.count;
+    let mut index: usize = 0;
+    while index < count {
+        let rect = free.rects[index];
+        put_rect(sheet, index, rect);
+        index += 1;
+    }
+}
+
+// The free rectangles back into the words, the count first.
+pub fn store(sheet: &mut [u32], free: FreeRects)
+    requires { ⌜ (free .count ≤ mostRects) × (blockWords ≤ length (now sheet)) ⌝ }
+    ensures { λ _. ⌜ now (sheet .exit) ≡ withRects (rectsOf free) (now (sheet .entry)) ⌝ }
+{
+    let count = free.count;
+    sheet[0] = count as u32;
+    store_rects(sheet, free);
+}
+
+// The bare board.
+pub fn new_sheet(sheet: &mut [u32], width: u32, length: u32)
+    requires { ⌜ blockWords ≤ lib.ListN.length (now sheet) ⌝ }
+    ensures { λ _. ⌜ now (sheet .exit) ≡ withRects (rect 0 0 width length ∷ []) (now (sheet .entry)) ⌝ }
+{
+    let board = Rect {
+        x: 0,
+        y: 0,
+        width: width,
+        length: length,
+    };
+    sheet[0] = 1;
+    put_rect(sheet, 0, board);
+}
+
+// ---- changes in place
+
+// The last rectangle takes the place of the one at the index.
+fn remove_at(sheet: &mut [u32], index: usize)
+    requires { ⌜ Block (now sheet) × (index < getD (now sheet) 0 0) ⌝ }
+    ensures { λ _. ⌜ now (sheet .exit) ≡ withRects (swapRemove noRect index (rectsIn (now (sheet .entry)))) (now (sheet .entry)) ⌝ }
+{
+    let last = wide(sheet[0]) - 1;
+    let rect = rect_at(sheet, last);
+    sheet[0] = last as u32;
+    put_rect(sheet, index, rect);
+}
+
+fn push_rect(sheet: &mut [u32], rect: Rect)
+    requires { ⌜ Block (now sheet) × (getD (now sheet) 0 0 < mostRects) ⌝ }
+    ensures { λ _. ⌜ now (sheet .exit) ≡ withRects (rectsIn (now (sheet .entry)) ++ (rect ∷ [])) (now (sheet .entry)) ⌝ }
+{
+    let count = wide(sheet[0]);
+    sheet[0] = (count + 1) as u32;
+    put_rect(sheet, count, rect);
+}
+
+fn push_remainder(sheet: &mut [u32], remainder: Remainder)
+    requires { ⌜ Block (now sheet) × (getD (now sheet) 0 0 < mostRects) ⌝ }
+    ensures { λ _. ⌜ now (sheet .exit) ≡ withRects (rectsIn (now (sheet .entry)) ++ remainderOf remainder) (now (sheet .entry)) ⌝ }
+{
+    match remainder {
+        Remainder::Nothing => {}
+        Remainder::One(rect) => push_rect(sheet, rect),
+    }
+}
+
+// The rectangle at the index gives way to the remainders.
+pub fn replace(sheet: &mut [u32], index: usize, bottom: Remainder, right: Remainder)
+    requires { ⌜ Block (now sheet) × (index < getD (now sheet) 0 0) × (getD (now sheet) 0 0 < mostRects) ⌝ }
+    ensures { λ _. ⌜ now (sheet .exit) ≡ withRects (swapRemove noRect index (rectsIn (now (sheet .entry))) ++ (remainderOf bottom ++ remainderOf right)) (now (sheet .entry)) ⌝ }
+{
+    remove_at(sheet, index);
+    push_remainder(sheet, bottom);
+    push_remainder(sheet, right);
+}
