@@ -44,7 +44,7 @@ fn write_sheets(plan: &mut [u32], stock: &[u32], cuts: &[u32], n: Instance, c: C
             c.boards[j],
         );
         let end = body.end;
-        sheet_plan::put_two(plan, 4 + 2 * j, at as u32, (end - at) as u32);
+        plan_words::put_two(plan, 4 + 2 * j, at as u32, (end - at) as u32);
         placed[j] = body.placed;
         areas[j] = body.area;
         at = end;
@@ -67,12 +67,12 @@ pub fn write_plan(plan: &mut [u32], stock: &[u32], cuts: &[u32], n: Instance, c:
     let placed = bodies.placed;
     let areas = bodies.areas;
     let bits = fitness::fitness_bits(&placed, &areas, sheets);
-    sheet_plan::put_four(
+    plan_words::put_four(
         plan,
         0,
         sheets as u32,
-        sheet_plan::low(bits),
-        sheet_plan::high(bits),
+        plan_words::low(bits),
+        plan_words::high(bits),
         0,
     );
     bodies.end
@@ -93,7 +93,7 @@ pub fn empty_plan(plan: &mut [u32], layout: LayoutKind) -> usize
     ensures { λ r. ⌜ Plans (planWords layout one []) (now (plan .entry)) (now (plan .exit)) r ⌝ }
 {
     let code = layout_code(layout);
-    sheet_plan::put_four(plan, 0, 0, 0, 0x3FF0_0000, code);
+    plan_words::put_four(plan, 0, 0, 0, 0x3FF0_0000, code);
     4
 }
 

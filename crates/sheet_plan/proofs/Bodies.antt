@@ -22,7 +22,7 @@ use Rattle.rect_words.proofs.Words.{length-rects}
 use Rattle.guide.specs.Words.{Sawn, Sawable}
 use Rattle.guide.proofs.Guides.{holds-fits}
 use Rattle.sheet_plan.specs.declared.Progress.{Progress}
-use Rattle.sheet_plan.specs.Rows.{headWords}
+use Rattle.plan_words.specs.Rows.{headWords}
 use Rattle.sheet_plan.specs.Replaying.{Replayed, WritesSheet, Finishable}
 
 -- ---- the words by their parts

@@ -1,6 +1,4 @@
 -- Laws that belong to no one function.
-pub mod Waste
-pub mod Joined
 pub mod Making
 pub mod Steps
 pub mod Turns

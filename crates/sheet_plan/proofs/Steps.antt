@@ -34,8 +34,7 @@ use Rattle.guide.specs.Words.{Became}
 use Rattle.guide.proofs.Guides.{became-holds}
 use Rattle.guide.proofs.Sheets.{next-guide-is, in-corner, room}
 use Rattle.sheet_plan.specs.declared.Progress.{Progress}
-use Rattle.sheet_plan.specs.Rows.{newPieces}
-use Rattle.sheet_plan.specs.Replaying.{Replayed, Boardable, Takeable, Takes}
+use Rattle.sheet_plan.specs.Replaying.{newPieces, Replayed, Boardable, Takeable, Takes}
 
 -- ---- the bare board
 

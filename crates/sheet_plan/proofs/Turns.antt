@@ -28,8 +28,7 @@ use Rattle.guillotine.specs.Insertions.{Insertable, InsertsInto, Inserts}
 use Rattle.candidate.specs.Entries.{boardOf, cutOf, rowOf}
 use Rattle.candidate.specs.Stands.{boardIn, cutIn, insertionIn, binIn, noCut}
 use Rattle.sheet_plan.specs.declared.Progress.{Progress}
-use Rattle.sheet_plan.specs.Rows.{newPieces}
-use Rattle.sheet_plan.specs.Replaying.{Replayed, Rebuildable, Takeable, Takes, ReplaysWord, ReplaysSheet, Finishable}
+use Rattle.sheet_plan.specs.Replaying.{newPieces, Replayed, Rebuildable, Takeable, Takes, ReplaysWord, ReplaysSheet, Finishable}
 use Rattle.sheet_plan.proofs.Making.{begins, bin-pieces, begun-pieces, bin-board, bin-bounded, step-on, step-off, kept-pieces, cut-known, first-bin, last-bin}
 use Rattle.sheet_plan.proofs.Steps.{no-piece, insertable, not-nothing, takeable, written, replayed, pieces-more}
 

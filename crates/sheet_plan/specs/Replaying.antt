@@ -4,7 +4,7 @@ use mathlib.Core.Path.{_≡_}
 use mathlib.Core.Bool.{Bool}
 use mathlib.Core.List.{List}
 use mathlib.Core.Option.{some}
-use lib.ListN.{length, take}
+use lib.ListN.{length, take, drop}
 use Rattle.lists.specs.Base.{concatMap}
 use Rattle.lists.specs.Parts.{patch}
 use Rattle.lists.proofs.Perm.{All}
@@ -28,7 +28,11 @@ use Rattle.candidate.specs.Entries.{cutOf}
 use Rattle.candidate.specs.Stands.{boardIn, makingIn, binIn}
 use Rattle.sheet_plan.specs.declared.Progress.{Progress}
 use Rattle.sheet_plan.specs.declared.Body.{Body}
-use Rattle.sheet_plan.specs.Rows.{piece, newPieces}
+use Rattle.plan_words.specs.Rows.{piece}
+
+-- the words of the pieces that a sheet has behind those of an earlier state
+unfoldable pub newPieces : GuillotineSheet → GuillotineSheet → List ℕ
+newPieces s t = concatMap pieceWords (drop (length (s .placedPieces)) (t .placedPieces))
 
 -- ---- the sheet so far
 

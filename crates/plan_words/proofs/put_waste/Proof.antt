@@ -6,10 +6,10 @@ use mathlib.Core.List.{List}
 use lib.ListN.{length, getD, drop, length-set}
 use lib.Seq.{paste, paste-zero}
 use Rattle.rect_words.proofs.Words.{length-rects}
-use Rattle.sheet_plan.proofs.Waste.{waste-turn, waste-end}
+use Rattle.plan_words.proofs.Waste.{waste-turn, waste-end}
 use borrow.Author.Needs.{needs}
-use Rattle.sheet_plan.proofs.put_waste.Statement.{statement}
-use Rattle.sheet_plan.proofs.put_waste.Tie as tie
+use Rattle.plan_words.proofs.put_waste.Statement.{statement}
+use Rattle.plan_words.proofs.put_waste.Tie as tie
 
 abbrev Inv-loop : tie.InvT-loop
 Inv-loop plan₀ at rects count n i₀ plan i = (i ≤ n) × (length plan ≡ length plan₀) × (plan ≡ paste plan₀ at (drop 1 rects) i)

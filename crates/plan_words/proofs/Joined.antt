@@ -12,7 +12,7 @@ use Rattle.model.specs.declared.CutInstance.{CutInstance}
 use Rattle.model.specs.declared.FitResult.{FitResult}
 use Rattle.model.specs.Types.{patternCode, flagCode}
 use Rattle.model.specs.Plan.{pieceWords}
-use Rattle.sheet_plan.specs.Rows.{piece, headWords}
+use Rattle.plan_words.specs.Rows.{piece, headWords}
 
 module _ (l l₁ l₂ : List ℕ) (at a b c d e f g h : ℕ)
     (first : l₁ ≡ patch l at (a ∷ b ∷ c ∷ d ∷ [])) (second : l₂ ≡ patch l₁ (at + 4) (e ∷ f ∷ g ∷ h ∷ [])) where

@@ -1,14 +1,12 @@
--- A sheet's words in the plan, by what the writer has at hand.
+-- A piece and the words before a sheet's pieces, by what the writer has at hand.
 use Prim.Native.Nat.{ℕ}
 use mathlib.Core.List.{List, [], _∷_, _++_}
-use lib.ListN.{length, drop}
-use Rattle.lists.specs.Base.{concatMap}
 use Rattle.model.specs.declared.BaselineGuillotineHeuristic.{BaselineGuillotineHeuristic}
 use Rattle.model.specs.declared.StockInstance.{StockInstance}
 use Rattle.model.specs.declared.CutInstance.{CutInstance}
 use Rattle.model.specs.declared.FitResult.{FitResult}
-use Rattle.model.specs.Sheet.{GuillotineSheet, PlacedPiece}
-use Rattle.model.specs.Plan.{words64, pieceWords}
+use Rattle.model.specs.Sheet.{PlacedPiece}
+use Rattle.model.specs.Plan.{words64}
 
 -- a cut that a heuristic placed
 abbrev pub piece : CutInstance → BaselineGuillotineHeuristic → FitResult → PlacedPiece
@@ -18,7 +16,3 @@ piece cut h fit = record { by = record { cut = cut; heuristic = h }; fit = fit }
 unfoldable pub headWords : StockInstance → (used saw pieces waste nodes : ℕ) → List ℕ
 headWords stock used saw pieces waste nodes =
     words64 (stock .«stock_id») ++ (stock .instance ∷ stock .width ∷ stock .length ∷ used ∷ saw ∷ pieces ∷ waste ∷ nodes ∷ [])
-
--- the words of the pieces that a sheet has behind those of an earlier state
-unfoldable pub newPieces : GuillotineSheet → GuillotineSheet → List ℕ
-newPieces s t = concatMap pieceWords (drop (length (s .placedPieces)) (t .placedPieces))

@@ -2,11 +2,11 @@
 use mathlib.Core.Path.{ap, _∙_}
 use mathlib.Core.List.{List}
 use Prim.Native.Nat.{ℕ}
-use Rattle.sheet_plan.proofs.Joined.{ten, head-row}
+use Rattle.plan_words.proofs.Joined.{ten, head-row}
 use borrow.Author.Needs.{needs}
 use Rattle.lists.specs.Parts.{patch}
-use Rattle.sheet_plan.proofs.put_head.Statement.{statement}
-use Rattle.sheet_plan.proofs.put_head.Tie as tie
+use Rattle.plan_words.proofs.put_head.Statement.{statement}
+use Rattle.plan_words.proofs.put_head.Tie as tie
 
 low-requires : tie.Need-low-requires
 low-requires c κs = search needs

@@ -3,8 +3,8 @@ use native.Mathlib.Omega.{arith}
 use lib.ListN.{length-set}
 use borrow.Author.Needs.{needs}
 use Rattle.lists.proofs.Parts.{two-stores}
-use Rattle.sheet_plan.proofs.put_two.Statement.{statement}
-use Rattle.sheet_plan.proofs.put_two.Tie as tie
+use Rattle.plan_words.proofs.put_two.Statement.{statement}
+use Rattle.plan_words.proofs.put_two.Tie as tie
 
 mul-plan : tie.Need-mul-plan
 mul-plan c = search needs

@@ -3,11 +3,11 @@ use mathlib.Core.Path.{ap, _∙_}
 use mathlib.Core.List.{List}
 use Prim.Native.Nat.{ℕ}
 use lib.ListN.{length-set}
-use Rattle.sheet_plan.proofs.Joined.{nine, piece-row}
+use Rattle.plan_words.proofs.Joined.{nine, piece-row}
 use borrow.Author.Needs.{needs}
 use Rattle.lists.specs.Parts.{patch}
-use Rattle.sheet_plan.proofs.put_piece.Statement.{statement}
-use Rattle.sheet_plan.proofs.put_piece.Tie as tie
+use Rattle.plan_words.proofs.put_piece.Statement.{statement}
+use Rattle.plan_words.proofs.put_piece.Tie as tie
 
 low-requires : tie.Need-low-requires
 low-requires c κs = search needs
