@@ -70,10 +70,6 @@ above-zero f a e (suc n) h = e n
 -- ---- an insertion
 
 module _ (board cut : ℕ) (h : BaselineGuillotineHeuristic) where
-  pub word-most : board < 64 → cut < 64 → insertionWord board cut h < 131072
-  unfolding insertionWord
-  word-most b k = omega (arith, heuristic-most h)
-
   pub board-back : cut < 64 → boardOf (insertionWord board cut h) ≡ board
   unfolding boardOf insertionWord
   board-back k = omega (arith, heuristic-most h)

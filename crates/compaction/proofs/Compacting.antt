@@ -283,17 +283,6 @@ module _ (inst : ProblemInstance) (a : Admitted inst) (ranged : Ranged inst) (c 
   pub compacted-words : Compacted inst c r
   compacted-words = record { is = compacted-is; stands = compacted-stands; kept = same-sheets }
 
--- what holds of the sheets of a candidate, each with its board, holds of those that compaction leaves: so words that show the ones show the others
-pub sheets-carried : (inst : ProblemInstance) (c r : Words) (Shows : ℕ → GuillotineSheet → Type 0) → All (SameSheet c r) (sheetBoards r)
-    → All (λ b. Shows b (binIn inst (placedWords c) b)) (sheetBoards c) → All (λ b. Shows b (binIn inst (placedWords r) b)) (sheetBoards r)
-unfolding binIn makingIn
-sheets-carried inst c r Shows same h =
-    all-map (SameSheet c r) (λ b. Shows b (binIn inst (placedWords r) b))
-    (λ b e. subst (Shows b) (ap (bin b) (sym (e .1))) (in-all (λ x. Shows x (binIn inst (placedWords c) x)) (sheetBoards c) h (e .0))) (sheetBoards r) same
-  where
-    bin : ℕ → List ℕ → GuillotineSheet
-    bin b on = Option·getD (rebuild (inst .kerfWidth) (boardIn inst b) (map (insertionIn inst) on)) (newSheet (boardIn inst b))
-
 -- a candidate of one sheet stays
 pub compacted-one : (inst : ProblemInstance) (c : Words) → Ranged inst → Stands inst [] c → c .sheets < 2 → Compacted inst c c
 unfolding candidateIn

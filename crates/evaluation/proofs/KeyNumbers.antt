@@ -56,12 +56,6 @@ module _ {A : Type 0} (key : A → InstanceKey) (d : A) where
     contains-number i [] h k = refl
     contains-number i (j ∷ ks) h k = ap₂ (λ (a b : Bool). a || b) (same-number i j h (k .0)) (contains-number i ks h (k .1))
 
-    -- the duplicate test of the keys is that of the numbers
-    pub repeats-numbers : (ks : List ℕ) → All (λ k. k < length l) ks → hasDuplicateKeys (map keyAt ks) ≡ repeats ks
-    unfolding hasDuplicateKeys repeats
-    repeats-numbers [] h = refl
-    repeats-numbers (k ∷ ks) h = ap₂ (λ (a b : Bool). a || b) (contains-number k ks (h .0) (h .1)) (repeats-numbers ks (h .1))
-
 -- ---- no duplicates
 
 none-keyed : (c : CutInstance) (cs : List CutInstance) → All (Differ c) cs → containsKey (cutKey c) (map cutKey cs) ≡ false

@@ -4,14 +4,12 @@ use mathlib.Core.Bool.{Bool, true, false, not}
 use mathlib.Core.List.{List, [], _∷_}
 use mathlib.Core.Option.{none, some, Option·getD}
 use Prim.Native.Nat.{ℕ, zero, suc, _+_, _*_, _^_, _≤_, _<_, zero-le}
-use native.Mathlib.Nat.{le-trans, le-of-eq, mul-one, add-assoc, mul-le-mul-right, zero-lt-suc, suc-mul}
+use native.Mathlib.Nat.{le-trans, add-assoc, mul-le-mul-right, suc-mul}
 use native.Mathlib.Omega.{arith}
 use borrow.Author.Tests.{eqb-false}
-use lib.Pow.{pow-pos}
-use lib.Dec.{T, eqb, lit≤}
+use lib.Dec.{T, eqb}
 use lib.ListN.{getD, take}
-use lib.Ieee.{Float, binary64, low, add, div, le, isNan}
-use lib.Ieee.Order.{le-of-values}
+use lib.Ieee.{Float, binary64, low, add, div, isNan}
 use Rattle.lists.specs.Base.{if_then_else_, sum}
 use Rattle.model.specs.Fitness.{weight, positiveZero}
 use Rattle.trust.proofs.Rounding.{has-number}
@@ -59,11 +57,6 @@ module _ (placed areas : List ℕ) (i : Inside placed areas) (exact : sum areas 
   -- so it is no NaN, and at most 1
   pub fitness-number : T (not (isNan (Option·getD (fitnessOf placed areas) positiveZero)))
   fitness-number = has-number (Option·getD (fitnessOf placed areas) positiveZero) (fitness-upto .v) (2 ^ low binary64) (fitness-upto .has)
-
-  pub fitness-most : T (le (Option·getD (fitnessOf placed areas) positiveZero) (weight 1))
-  fitness-most =
-      le-of-values (Option·getD (fitnessOf placed areas) positiveZero) (weight 1) (fitness-upto .v) (2 ^ low binary64) 1 1 (pow-pos (low binary64)) (zero-lt-suc 0) (fitness-upto .has) (weight-has 1 (lit≤ tt))
-      (le-trans (le-of-eq (mul-one (fitness-upto .v))) (fitness-upto .most))
 
 -- n areas of at most m each, as the boards of a plan have, sum to at most n times that
 pub sum-most : (l : List ℕ) (n m : ℕ) → ((k : ℕ) → k < n → getD l k 0 ≤ m) → sum (take n l) ≤ n * m

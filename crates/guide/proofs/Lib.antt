@@ -8,4 +8,3 @@ pub mod Guides
 pub mod Saws
 pub mod Sheets
 pub mod Unique
-pub mod SawBounds

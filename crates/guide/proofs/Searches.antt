@@ -75,10 +75,6 @@ module _ (w : List ℕ) (n : ℕ) where
   reads-below at (cut c a b) r = r .0
   reads-below at (leaf q k) r = r .0
 
-  pub reads-node : (at : ℕ) (t : SliceNode) → Reads w n at t → nodeAt w at ≡ nodeWords t
-  reads-node at (cut c a b) r = r .1
-  reads-node at (leaf q k) r = r .1
-
   pub formed-below : (at : ℕ) → Formed w n at → at < n
   formed-below at f = reads-below at (f .tree) (f .reads)
 

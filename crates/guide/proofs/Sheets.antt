@@ -1,16 +1,13 @@
 -- The guide of a sheet along its making: what the plan's writer shows at each call.
 use mathlib.Core.Path.{_≡_, refl}
 use mathlib.Core.List.{List}
-use mathlib.Core.Option.{some}
 use Prim.Native.Nat.{ℕ, _+_, _*_, _^_, _≤_, _<_}
 use native.Mathlib.Omega.{arith}
 use lib.ListN.{length}
-use Rattle.model.specs.declared.StockInstance.{StockInstance}
-use Rattle.model.specs.Types.{stockRect}
 use Rattle.model.specs.Split.{splitDirection}
 use Rattle.model.specs.Merge.{mergesAny}
-use Rattle.model.specs.Guide.{cut, leaf, free}
-use Rattle.model.specs.Sheet.{GuillotineSheet, Insertion, Place, newSheet, splitRects, splitTree, insertAt}
+use Rattle.model.specs.Guide.{cut}
+use Rattle.model.specs.Sheet.{GuillotineSheet, Insertion, Place, splitRects, splitTree, insertAt}
 use Rattle.trust.proofs.Placing.{Good}
 use Rattle.trust.proofs.RectLayout.{layout-perm}
 use Rattle.trust.proofs.Sheet.{Sound, chosen-first, lies-positive}
@@ -18,10 +15,6 @@ use Rattle.trust.proofs.Sizes.{NodeCount}
 use Rattle.guide.specs.Words.{Holds, InCorner, splitGuide, nextGuide}
 
 -- ---- the definition's steps
-
-pub new-guide-is : (stock : StockInstance) → newSheet stock .slicingTree ≡ some (leaf (stockRect stock) free)
-unfolding newSheet
-new-guide-is stock = refl
 
 module _ (kerf : ℕ) (s : GuillotineSheet) (i : Insertion) (p : Place) where
   pub next-guide-is : insertAt kerf s i p .slicingTree

@@ -1,7 +1,7 @@
 // The cutting guide of one sheet while its making is replayed: its nodes numbered in preorder, a cut before its first and
 // its second child, in eight words each as the plan has them. A guide of no nodes is none.
 ghost use mathlib.Core.Path.{_≡_};
-ghost use mathlib.Core.List.{[], _∷_, _++_};
+ghost use mathlib.Core.List.{_++_};
 ghost use mathlib.Core.Option.{some};
 ghost use Prim.Native.Nat.{_+_, _-_, _*_, _≤_, _<_};
 ghost use lib.ListN.{length, take, drop};
@@ -227,22 +227,12 @@ pub fn guillotine_insert_subtree(
 
 // ---- the words
 
-fn put_four(words: &mut [u32], at: usize, a: u32, b: u32, c: u32, d: u32)
-    requires { ⌜ at + 4 ≤ length (now words) ⌝ }
-    ensures { λ _. ⌜ now (words .exit) ≡ patch (now (words .entry)) at (a ∷ b ∷ c ∷ d ∷ []) ⌝ }
-{
-    words[at] = a;
-    words[at + 1] = b;
-    words[at + 2] = c;
-    words[at + 3] = d;
-}
-
 fn put_node(words: &mut [u32], at: usize, node: Node)
     requires { ⌜ 8 * at + 8 ≤ length (now words) ⌝ }
     ensures { λ _. ⌜ now (words .exit) ≡ patch (now (words .entry)) (8 * at) (wordsOf node) ⌝ }
 {
     let r = node.rect;
-    put_four(
+    copying::put_four(
         words,
         8 * at,
         node.kind,
@@ -250,7 +240,7 @@ fn put_node(words: &mut [u32], at: usize, node: Node)
         node.second,
         node.third,
     );
-    put_four(words, 8 * at + 4, r.x, r.y, r.width, r.length)
+    copying::put_four(words, 8 * at + 4, r.x, r.y, r.width, r.length)
 }
 
 fn put_before(words: &mut [u32], at: usize, c: CutOff) -> usize

@@ -19,13 +19,12 @@ use Rattle.lists.proofs.Arrays.{drop-replicate}
 use Rattle.lists.proofs.Counts.{map-range}
 use Rattle.lists.proofs.Maps.{concatMap-concatMap, concatMap-map}
 use Rattle.model.specs.declared.StockInstance.{StockInstance}
-use Rattle.model.specs.declared.CutInstance.{CutInstance}
 use Rattle.model.specs.Project.{Piece, projectOf, stockStart, stockLength, cutsStart, cutsLength, recordLength}
 use Rattle.model.specs.Refusal.{Check, RecordRule, stockRule, cutRule, recordChecks, settingsChecks, wholeChecks, projectChecks, fileRefusal, totalQuantity}
 use Rattle.model.specs.Expand.{compareStock, stockInstances, cutInstances, expandProject}
 use Rattle.trust.proofs.Checks.{file-passed}
-use Rattle.orders.specs.Rows.{stockWords, cutWords, stockRow, cutRow, rowAt, stockAt, stockOf, cutAt, sortedOrder}
-use Rattle.orders.proofs.Rows.{length-rows, row-within, row-of, stock-sized, cut-sized, stock-known, cut-known}
+use Rattle.orders.specs.Rows.{stockWords, cutWords, stockRow, cutRow, rowAt, stockAt, stockOf, sortedOrder}
+use Rattle.orders.proofs.Rows.{length-rows, row-within, row-of, stock-sized, cut-sized, stock-known}
 use Rattle.orders.proofs.Order.{length-sorted, sorted-below, sorted-stock-rows}
 use Rattle.project.specs.declared.Kind.{Kind}
 use Rattle.project.specs.Records.{recordsFrom}
@@ -67,15 +66,6 @@ module _ {A : Type 0} (width : ℕ) (row : A → List ℕ) (l : List A) (size : 
 pub held-as : {A B : Type 0} (width : ℕ) (f : A → List ℕ) (g : B → List ℕ) (l : List A) (m : List B) (words : List ℕ) (count : ℕ)
     → length l ≡ length m → concatMap f l ≡ concatMap g m → Holds width f l words count → Holds width g m words count
 held-as width f g l m words count n e h = record { counted = h .counted ∙ n; rows = h .rows ∙ e; zeros = h .zeros }
-
--- what the readers find in such tables
-pub held-stock : (d : StockInstance) (l : List StockInstance) (words : List ℕ) (count i : ℕ) → Holds stockWords stockRow l words count → i < count → stockAt words i ≡ getD l i d
-held-stock d l words count i h b =
-    stock-known d words l i (ap (λ (n : ℕ). take (stockWords * n) words) (sym (h .counted)) ∙ h .rows) (omega (arith, h .counted))
-
-pub held-cut : (d : CutInstance) (l : List CutInstance) (words : List ℕ) (count i : ℕ) → Holds cutWords cutRow l words count → i < count → cutAt words i ≡ getD l i d
-held-cut d l words count i h b =
-    cut-known d words l i (ap (λ (n : ℕ). take (cutWords * n) words) (sym (h .counted)) ∙ h .rows) (omega (arith, h .counted))
 
 -- ---- stock in its order
 

@@ -26,10 +26,6 @@ module _ {A : Type 0} where
   pub part-span : (l : List A) (a n : ℕ) → take (a + n - a) (drop a l) ≡ part l a n
   part-span l a n = let e : a + n - a ≡ n = omega arith in ap (λ (k : ℕ). take k (drop a l)) e
 
-  -- a part behind others
-  pub part-behind : (x y : List A) (a n : ℕ) → part (x ++ y) (length x + a) n ≡ part y a n
-  part-behind x y a n = ap (take n) (drop-append-add x y a)
-
   pub drop-take-add : (a n : ℕ) (l : List A) → drop a (take (a + n) l) ≡ take n (drop a l)
   drop-take-add zero n l = ap (λ (m : ℕ). take m l) (zero-add n)
   drop-take-add (suc a) n [] = ap (λ (m : ℕ). drop (suc a) (take m [])) (suc-add a n) ∙ sym (take-nil n)
@@ -124,12 +120,6 @@ module _ {A : Type 0} where
 -- two, four and six stores
 pub two-stores : (l : List ℕ) (p a b : ℕ) → p + 2 ≤ length l → set (set l p a) (p + 1) b ≡ patch l p (a ∷ b ∷ [])
 two-stores l p a b h = rw (add-one p) (sets-eq (a ∷ b ∷ []) l p h ∙ append-assoc (take p l) (a ∷ b ∷ []) (drop (p + 2) l))
-
-pub four-stores : (l : List ℕ) (p a b c d : ℕ) → p + 4 ≤ length l → set (set (set (set l p a) (p + 1) b) (p + 2) c) (p + 3) d ≡ patch l p (a ∷ b ∷ c ∷ d ∷ [])
-four-stores l p a b c d h =
-    let two : p + 2 ≡ suc (suc p) = omega arith in
-    let three : p + 3 ≡ suc (suc (suc p)) = omega arith in
-    rw (add-one p, two, three) (sets-eq (a ∷ b ∷ c ∷ d ∷ []) l p h ∙ append-assoc (take p l) (a ∷ b ∷ c ∷ d ∷ []) (drop (p + 4) l))
 
 pub six-stores : (l : List ℕ) (at u v w x y z : ℕ) → at + 6 ≤ length l
     → set (set (set (set (set (set l at u) (at + 1) v) (at + 2) w) (at + 3) x) (at + 4) y) (at + 5) z ≡ patch l at (u ∷ v ∷ w ∷ x ∷ y ∷ z ∷ [])

@@ -1,6 +1,6 @@
 -- The memory rules of document 01, read off the definition of the outcome.
 use Prim.Native.Nat.{ℕ, _≤_, _<_}
-use mathlib.Core.Path.{_≡_, refl, sym, ap, _∙_}
+use mathlib.Core.Path.{_≡_, refl, ap, _∙_}
 use mathlib.Core.Logic.{_⊎_, inl, inr}
 use mathlib.Core.Bool.{Bool, true, false, _||_}
 use mathlib.Core.List.{List, _++_}
@@ -9,9 +9,8 @@ use lib.ListN.{length, take, drop, replicate, length-append, length-drop, length
 use lib.Seq.{take-at, drop-at}
 use native.Mathlib.Omega.{arith}
 use borrow.Author.Tests.{lt-ltb, le-ltb}
-use Rattle.lists.specs.Base.{if_then_else_}
 use Rattle.model.specs.Answer.{Answer, plan, refused, answer}
-use Rattle.model.specs.Outcome.{Outcome, leastWorkspace, leastPlan, searches, cleared, written, tooSmall, outcome}
+use Rattle.model.specs.Outcome.{leastWorkspace, leastPlan, searches, cleared, written, tooSmall, outcome}
 
 -- ---- 1: too little memory, and nothing else is looked at
 

@@ -2,7 +2,7 @@
 use Prim.Native.Nat.{ℕ, zero, suc, _+_, _*_}
 use mathlib.Core.Bool.{_||_}
 use mathlib.Core.List.{List, [], _∷_, map}
-use mathlib.Core.Option.{Option, none, some}
+use mathlib.Core.Option.{none, some}
 use lib.ListN.{length, getD}
 use Rattle.lists.specs.Base.{if_then_else_, sum}
 use Rattle.model.specs.Types.{Rect, area, noRect}

@@ -1,10 +1,10 @@
 -- From a project file to a plan or a refusal: `optimize_with_config`.
 use Prim.Native.Nat.{ℕ}
-use mathlib.Core.Bool.{Bool, true, false, not}
+use mathlib.Core.Bool.{not}
 use mathlib.Core.List.{List, [], _∷_, map}
 use mathlib.Core.Option.{Option, none, some, Option·getD}
 use lib.Dec.{ltb}
-use Rattle.lists.specs.Base.{if_then_else_, _<|>_, sum, any, all, isEmpty}
+use Rattle.lists.specs.Base.{if_then_else_, sum, any, all, isEmpty}
 use Rattle.model.specs.Types.{LayoutKind, BaselineGuillotineHeuristic, StockInstance, stockArea, cutArea, layoutOf, effortOf}
 use Rattle.model.specs.Fit.{cutFitsStock}
 use Rattle.model.specs.Sheet.{Insertion, makingOf}

@@ -1,12 +1,12 @@
 -- A candidate and what is done to one: `Candidate`, `StockInventory`, `CutCatalog`.
 use Prim.Native.Nat.{ℕ, _-_, compare, Ordering, Ordering·lt, Ordering·eq, Ordering·gt}
-use mathlib.Core.Bool.{Bool, true, false, not, _&&_, _||_}
+use mathlib.Core.Bool.{Bool, false, not, _&&_, _||_}
 use mathlib.Core.List.{List, [], _∷_, _++_, map}
 use mathlib.Core.Option.{Option, none, some, Option·getD}
 use lib.Dec.{ltb}
 use lib.ListN.{length}
 use lib.Ieee.{Float}
-use Rattle.lists.specs.Base.{if_then_else_, _>>=_, _<|>_, isSome, isLess, isGreater, thenWith, sum, any, retain, isEmpty, find, enumerate, firstBest, removeAt, foldl, concatMap, mapOption}
+use Rattle.lists.specs.Base.{if_then_else_, _>>=_, _<|>_, isSome, isLess, thenWith, sum, any, retain, isEmpty, find, enumerate, firstBest, removeAt, foldl, concatMap, mapOption}
 use Rattle.model.specs.Types.{BaselineGuillotineHeuristic, StockInstance, CutInstance, InstanceKey, cutArea, cutKey, sameKey}
 use Rattle.model.specs.Sheet.{GuillotineSheet, Insertion, newSheet, tryInsert, sheetKeys}
 use Rattle.model.specs.Fitness.{sheetFitness, usedStockArea, fitness, compareFloat, compareFitness}

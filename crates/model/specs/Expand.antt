@@ -1,6 +1,6 @@
 -- Instances and their order: `expand_project`, `sorted_cut_order`, `shuffle_cut_order`.
 use Prim.Native.Nat.{ℕ, zero, suc, _-_, compare, Ordering}
-use mathlib.Core.List.{List, [], _∷_, map}
+use mathlib.Core.List.{List, map}
 use lib.Dec.{eqb}
 use lib.ListN.{length}
 use Rattle.lists.specs.Base.{thenWith, range, concatMap, sortBy, swap}

@@ -1,6 +1,6 @@
 -- The cutting guide: `GuillotineSliceNode`, `Cut::new`, `guillotine_insert_subtree`, `replace_free_leaf`.
 use Prim.Native.Nat.{ℕ, _+_}
-use mathlib.Core.Bool.{Bool, _||_}
+use mathlib.Core.Bool.{_||_}
 use mathlib.Core.List.{List, [], _∷_}
 use mathlib.Core.Option.{Option, none, some}
 use lib.Dec.{leb, eqb}

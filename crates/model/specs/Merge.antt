@@ -1,5 +1,5 @@
 -- Two free rectangles a kerf apart with a whole side in common become one: `merge_adjacent_rects`, `merge_free_rects`.
-use Prim.Native.Nat.{ℕ, zero, suc, _+_, _*_}
+use Prim.Native.Nat.{ℕ, zero, suc, _+_}
 use mathlib.Core.Bool.{Bool, _&&_}
 use mathlib.Core.List.{List, [], _∷_}
 use mathlib.Core.Option.{Option, none, some}

@@ -4,9 +4,9 @@ use mathlib.Core.Bool.{Bool, true, false, not}
 use mathlib.Core.List.{List, [], _∷_, _++_, map}
 use mathlib.Core.Option.{Option, none, some}
 use lib.ListN.{take}
-use Rattle.lists.specs.Base.{if_then_else_, _>>=_, isGreater, toList, range, retain, enumerate, find, firstBest, sortBy, removeAt, concatMap}
+use Rattle.lists.specs.Base.{_>>=_, isGreater, toList, range, retain, enumerate, find, firstBest, sortBy, removeAt, concatMap}
 use Rattle.model.specs.Types.{OptimizerEffort, BaselineGuillotineHeuristic, GuillotineRectChoice, GuillotineSplitHeuristic, RotationPreference, StockInstance, CutInstance, InstanceKey, stockKey, cutKey, sameKey}
-use Rattle.model.specs.Sheet.{GuillotineSheet, Insertion, rebuild, sheetKeys}
+use Rattle.model.specs.Sheet.{GuillotineSheet, rebuild, sheetKeys}
 use Rattle.model.specs.Fitness.{sheetFitness, compareFloat}
 use Rattle.model.specs.Candidate.{Candidate, newCandidate, containsKey, cutsForKeys, placeCuts, reinsertUnusedFirstFit, compactWorstBin, isValid, score, compareOptionalScore}
 use Rattle.model.specs.TinyPrng.{wrap}

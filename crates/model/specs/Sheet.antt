@@ -1,12 +1,12 @@
 -- A sheet and an insertion into it: `GuillotineSheet`, `new`, `try_insert`.
 -- A sheet is its state, as in the source. Each placed piece also keeps its cut and the heuristic that placed it (added):
 -- the sheet's making, from which the sheet can be rebuilt.
-use Prim.Native.Nat.{ℕ, _+_, _*_, _/_}
+use Prim.Native.Nat.{ℕ, _+_}
 use mathlib.Core.Bool.{Bool}
 use mathlib.Core.List.{List, [], _∷_, _++_, map}
 use mathlib.Core.Option.{Option, none, some}
 use Rattle.lists.specs.Base.{if_then_else_, _>>=_, isLess, lexicographic, sum, enumerate, concatMap, firstBest, foldOption, swapRemove}
-use Rattle.model.specs.Types.{BaselineGuillotineHeuristic, Direction, Rect, StockInstance, CutInstance, InstanceKey, FitResult, area, noRect, stockRect, stockArea, cutKey}
+use Rattle.model.specs.Types.{BaselineGuillotineHeuristic, Rect, StockInstance, CutInstance, InstanceKey, FitResult, area, noRect, stockRect, cutKey}
 use Rattle.model.specs.Fit.{fitCutInRects}
 use Rattle.model.specs.Choice.{freeRectChoiceScore}
 use Rattle.model.specs.Split.{splitDirection, splitFreeRect}

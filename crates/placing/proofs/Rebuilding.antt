@@ -5,24 +5,21 @@ use mathlib.Core.Path.{_≡_, sym, ap, _∙_}
 use mathlib.Core.Bool.{Bool, true}
 use mathlib.Core.List.{List, [], _∷_, _++_, map, List·Memᴰ}
 use lib.ListN.{length, length-take}
-use Rattle.lists.specs.Base.{isSome, all}
 use Rattle.lists.proofs.Perm.{perm-sym, All, all-map, all-both, all-left, all-perm, in-all}
 use Rattle.lists.proofs.Counts.{range-below}
-use Rattle.lists.proofs.Booleans.{and-true}
 use Rattle.model.specs.declared.StockInstance.{StockInstance}
-use Rattle.model.specs.Sheet.{newSheet, rebuild}
+use Rattle.model.specs.Sheet.{newSheet}
 use Rattle.model.specs.Expand.{ProblemInstance}
 use Rattle.trust.proofs.Ranges.{Ranged}
 use Rattle.orders.specs.Rows.{stockAt}
 use Rattle.rect_words.specs.SheetWords.{rectsIn}
 use Rattle.candidate.specs.declared.Instance.{Instance}
 use Rattle.candidate.specs.declared.Candidate.{Candidate as Words}
-use Rattle.candidate.specs.Entries.{boardOf, cutOf, onBoard}
+use Rattle.candidate.specs.Entries.{boardOf, cutOf}
 use Rattle.candidate.specs.Moves.{newWords}
-use Rattle.candidate.specs.Stands.{instanceIn, Tables, Stands, boardIn, insertionIn, makingIn, sheetBoards, availableBoards, placedWords, unusedNumbers}
+use Rattle.candidate.specs.Stands.{instanceIn, Tables, Stands, sheetBoards, availableBoards, placedWords, unusedNumbers}
 use Rattle.candidate.proofs.Lists.{Other}
 use Rattle.candidate.proofs.Instances.{stock-count, board-in, stock-row}
-use Rattle.candidate.proofs.Makings.{on-all}
 use Rattle.candidate.proofs.Standing.{boards-split, boards-below, few-placed}
 use Rattle.placing.specs.Blocks.{blockOf, ShowsBin, Shown}
 use Rattle.placing.specs.Rebuilding.{Listed, OpensBoards, rebuildsAll, ShowsBare, Makable, InsertsAll, Rebuildable, Rebuilds}
@@ -98,11 +95,3 @@ module _ (inst : ProblemInstance) (later : List ℕ) (k : Words) (st : Stands in
   candidate-shown before after r room b = record { room = room; sheets = b .shown (b .answer ∙ candidate-rebuilds) }
 
 -- ---- one board
-
--- all insertions on one board: the answer is that of the definition's `rebuild`
-pub board-rebuilds : (inst : ProblemInstance) (b : ℕ) (words : List ℕ) → All (λ w. boardOf w ≡ b) words
-    → rebuildsAll inst words (b ∷ []) ≡ isSome (rebuild (inst .kerfWidth) (boardIn inst b) (map (insertionIn inst) words))
-unfolding rebuildsAll all makingIn
-board-rebuilds inst b words h =
-    and-true (isSome (rebuild (inst .kerfWidth) (boardIn inst b) (map (insertionIn inst) (onBoard b words))))
-    ∙ ap (λ (l : List ℕ). isSome (rebuild (inst .kerfWidth) (boardIn inst b) (map (insertionIn inst) l))) (on-all b words h)

@@ -44,7 +44,7 @@ fn write_sheets(plan: &mut [u32], stock: &[u32], cuts: &[u32], n: Instance, c: C
             c.boards[j],
         );
         let end = body.end;
-        plan_words::put_two(plan, 4 + 2 * j, at as u32, (end - at) as u32);
+        copying::put_two(plan, 4 + 2 * j, at as u32, (end - at) as u32);
         placed[j] = body.placed;
         areas[j] = body.area;
         at = end;
@@ -67,7 +67,7 @@ pub fn write_plan(plan: &mut [u32], stock: &[u32], cuts: &[u32], n: Instance, c:
     let placed = bodies.placed;
     let areas = bodies.areas;
     let bits = fitness::fitness_bits(&placed, &areas, sheets);
-    plan_words::put_four(
+    copying::put_four(
         plan,
         0,
         sheets as u32,
@@ -93,7 +93,7 @@ pub fn empty_plan(plan: &mut [u32], layout: LayoutKind) -> usize
     ensures { λ r. ⌜ Plans (planWords layout one []) (now (plan .entry)) (now (plan .exit)) r ⌝ }
 {
     let code = layout_code(layout);
-    plan_words::put_four(plan, 0, 0, 0, 0x3FF0_0000, code);
+    copying::put_four(plan, 0, 0, 0, 0x3FF0_0000, code);
     4
 }
 

@@ -4,7 +4,6 @@ use model::FitResult;
 use model::PatternDirection;
 use model::StockInstance;
 ghost use mathlib.Core.Path.{_≡_};
-ghost use mathlib.Core.List.{[], _∷_};
 ghost use Prim.Native.Nat.{_+_, _*_, _/_, _%_, _^_, _≤_, _<_};
 ghost use lib.ListN.{length, getD};
 ghost use Rattle.lists.specs.Base.{concatMap};
@@ -14,22 +13,6 @@ ghost use Rattle.model.specs.Types.{patternCode, flagCode};
 ghost use Rattle.model.specs.Plan.{rectWords, pieceWords};
 ghost use Rattle.rect_words.specs.SheetWords.{rectsIn, Block};
 ghost use Rattle.plan_words.specs.Rows.{piece, headWords};
-
-pub fn put_two(plan: &mut [u32], at: usize, a: u32, b: u32)
-    requires { ⌜ at + 2 ≤ length (now plan) ⌝ }
-    ensures { λ _. ⌜ now (plan .exit) ≡ patch (now (plan .entry)) at (a ∷ b ∷ []) ⌝ }
-{
-    plan[at] = a;
-    plan[at + 1] = b;
-}
-
-pub fn put_four(plan: &mut [u32], at: usize, a: u32, b: u32, c: u32, d: u32)
-    requires { ⌜ at + 4 ≤ length (now plan) ⌝ }
-    ensures { λ _. ⌜ now (plan .exit) ≡ patch (now (plan .entry)) at (a ∷ b ∷ c ∷ d ∷ []) ⌝ }
-{
-    put_two(plan, at, a, b);
-    put_two(plan, at + 2, c, d)
-}
 
 // A u64's low word, and its high one.
 pub fn low(x: u64) -> u32
@@ -71,8 +54,8 @@ pub fn put_piece(plan: &mut [u32], at: usize, cut: CutInstance, fit: FitResult)
     let rect = fit.rect;
     let pattern = fit.pattern;
     let id = cut.cut_id;
-    put_four(plan, at, low(id), high(id), cut.instance, rect.x);
-    put_four(
+    copying::put_four(plan, at, low(id), high(id), cut.instance, rect.x);
+    copying::put_four(
         plan,
         at + 4,
         rect.y,
@@ -113,9 +96,9 @@ pub fn put_head(
     ensures { λ _. ⌜ now (plan .exit) ≡ patch (now (plan .entry)) at (headWords stock used saw pieces waste nodes) ⌝ }
 {
     let id = stock.stock_id;
-    put_four(plan, at, low(id), high(id), stock.instance, stock.width);
-    put_four(plan, at + 4, stock.length, used, saw, pieces);
-    put_two(plan, at + 8, waste, nodes)
+    copying::put_four(plan, at, low(id), high(id), stock.instance, stock.width);
+    copying::put_four(plan, at + 4, stock.length, used, saw, pieces);
+    copying::put_two(plan, at + 8, waste, nodes)
 }
 
 // The share of a board that is placed, in thousandths.

@@ -36,11 +36,14 @@ fn put_rect(sheet: &mut [u32], index: usize, rect: Rect)
     requires { ⌜ (index < mostRects) × (blockWords ≤ length (now sheet)) ⌝ }
     ensures { λ _. ⌜ now (sheet .exit) ≡ putRect (now (sheet .entry)) index rect ⌝ }
 {
-    let at = 4 * index + 1;
-    sheet[at] = rect.x;
-    sheet[at + 1] = rect.y;
-    sheet[at + 2] = rect.width;
-    sheet[at + 3] = rect.length;
+    copying::put_four(
+        sheet,
+        4 * index + 1,
+        rect.x,
+        rect.y,
+        rect.width,
+        rect.length,
+    )
 }
 
 // The free rectangles by value.

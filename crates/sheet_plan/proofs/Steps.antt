@@ -23,7 +23,6 @@ use Rattle.trust.proofs.Ranges.{PanelRange}
 use Rattle.trust.proofs.Placing.{bestPlace-good}
 use Rattle.trust.proofs.Bounded.{Bounded, tryInsert-bounded, placed-most, board-area-most}
 use Rattle.trust.proofs.RoundTrip.{pieces-size}
-use Rattle.guillotine.specs.declared.Inserted.{Inserted}
 use Rattle.guillotine.specs.declared.Inserted.the-variants as inserted
 use Rattle.rect_words.specs.SheetWords.{withRects, Shows}
 use Rattle.best_place.specs.Places.{placeAt}

@@ -5,24 +5,23 @@ use native.Mathlib.Omega.{arith}
 use mathlib.Core.Path.{_≡_, refl, ap}
 use mathlib.Core.List.{List, [], _∷_, map}
 use mathlib.Core.Option.{some}
-use lib.ListN.{length, length-append}
-use Rattle.lists.specs.Base.{sum, swapRemove}
+use lib.ListN.{length}
+use Rattle.lists.specs.Base.{sum}
 use Rattle.model.specs.declared.Rect.{Rect}
 use Rattle.model.specs.declared.StockInstance.{StockInstance}
 use Rattle.model.specs.declared.CutInstance.{CutInstance}
-use Rattle.model.specs.Types.{area, noRect, stockRect, stockArea, cutArea}
-use Rattle.model.specs.Split.{splitDirection, splitFreeRect}
+use Rattle.model.specs.Types.{area, stockRect, stockArea, cutArea}
 use Rattle.model.specs.Refusal.{mostSide}
-use Rattle.model.specs.Sheet.{GuillotineSheet, PlacedPiece, Insertion, Place, newSheet, splitRects, insertAt, tryInsert, placedArea}
+use Rattle.model.specs.Sheet.{GuillotineSheet, PlacedPiece, Insertion, Place, newSheet, insertAt, tryInsert, placedArea}
 use Rattle.model.specs.Plan.{preorder, nodesOf}
-use Rattle.lists.proofs.Perm.{length-perm, swapRemove-out, All, all-map, all-append, all-left, all-right, all-perm}
+use Rattle.lists.proofs.Perm.{All, all-map, all-append, all-left, all-right, all-perm}
 use Rattle.lists.proofs.Sums.{sum-append}
 use Rattle.trust.specs.Limits.{mostEdge, mostArea}
 use Rattle.trust.proofs.Geometry.{Within}
 use Rattle.trust.proofs.Placing.{Good, at-place}
 use Rattle.trust.proofs.Sheet.{pieceRects, sheetRects, Sound, new-sound, insert-sound, lies-positive, chosen-first}
 use Rattle.trust.proofs.Packing.{packed-area}
-use Rattle.trust.proofs.Sizes.{split-length, FreeCount, insert-free, NodeCount, insert-nodes}
+use Rattle.trust.proofs.Sizes.{FreeCount, insert-free, NodeCount, insert-nodes}
 use Rattle.trust.proofs.Ranges.{BoardRange, PanelRange}
 use Rattle.trust.proofs.GuideRange.{GuideIn, insert-guide-in}
 
@@ -74,18 +73,6 @@ insert-bounded kerf s i p r g h =
 
 pub tryInsert-bounded : (kerf : ℕ) (s : GuillotineSheet) (i : Insertion) (t : GuillotineSheet) → PanelRange (i .cut) → tryInsert kerf s i ≡ some t → Bounded kerf s → Bounded kerf t
 tryInsert-bounded kerf s i t r e h = at-place (Bounded kerf) kerf s i t (λ p g. insert-bounded kerf s i p r g h) e
-
--- right before merging there is room for one more: the chosen rectangle gave way to at most two
-pub split-count : (kerf : ℕ) (s : GuillotineSheet) (i : Insertion) (p : Place) → Good s i p → FreeCount s → length (splitRects kerf s i p) ≤ length (s .placedPieces) + 2
-unfolding splitRects
-split-count kerf s i p g h =
-    let d = splitDirection (p .freeRect) (p .fit .rect) (i .heuristic .split) in
-    omega (
-      arith,
-      length-append (swapRemove noRect (p .index) (s .freeRects)) (splitFreeRect d kerf (p .freeRect) (p .fit .rect)),
-      split-length d kerf (p .freeRect) (p .fit .rect),
-      length-perm (swapRemove-out noRect (s .freeRects) (p .index) (g .inside)),
-    )
 
 -- ---- the ranges of a rectangle on a board
 

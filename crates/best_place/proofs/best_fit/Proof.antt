@@ -1,4 +1,4 @@
--- `guillotine::best_fit` meets its contract: from the first rectangle in which the cut fits, or nothing.
+-- `best_place::best_fit` meets its contract: from the first rectangle in which the cut fits, or nothing.
 use native.Mathlib.Omega.{arith}
 use denote.Ref.{now}
 use borrow.Author.Needs.{needs}

@@ -1,4 +1,4 @@
--- `guillotine::best_fit_from` meets its contract: the best so far over the places that are left is the best of all. The measure is what is left of the count.
+-- `best_place::best_fit_from` meets its contract: the best so far over the places that are left is the best of all. The measure is what is left of the count.
 use mathlib.Core.Option.{none}
 use mathlib.Core.Path.{_≡_, refl, _∙_}
 use Prim.Native.Nat.{_+_, _-_, _≤_, _<_}

@@ -1,4 +1,4 @@
--- `guillotine::consider_fit` meets its contract: the first fit, a lower score, or none of both.
+-- `best_place::consider_fit` meets its contract: the first fit, a lower score, or none of both.
 use mathlib.Core.Path.{sym, _∙_}
 use borrow.Author.Needs.{needs}
 use Rattle.best_place.proofs.Search.{over-first, over-lower, over-higher}

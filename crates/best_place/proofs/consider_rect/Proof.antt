@@ -1,4 +1,4 @@
--- `guillotine::consider_rect` meets its contract: no fit, one, or two in a row.
+-- `best_place::consider_rect` meets its contract: no fit, one, or two in a row.
 use borrow.Author.Needs.{needs}
 use Rattle.best_place.proofs.Search.{over-none, over-then}
 use Rattle.best_place.proofs.consider_rect.Statement.{statement}

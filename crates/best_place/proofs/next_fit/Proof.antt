@@ -1,4 +1,4 @@
--- `guillotine::next_fit` meets its contract: from here on the same rectangle is next. The measure is what is left of the count.
+-- `best_place::next_fit` meets its contract: from here on the same rectangle is next. The measure is what is left of the count.
 use mathlib.Core.Path.{_≡_, refl, sym, _∙_}
 use Prim.Native.Nat.{_-_, _≤_, _<_}
 use native.Mathlib.Omega.{arith}

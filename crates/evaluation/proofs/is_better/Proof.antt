@@ -1,7 +1,6 @@
 -- `evaluation::is_better` meets its contract.
 use mathlib.Core.Path.{_∙_, sym, ap}
 use mathlib.Core.Bool.{Bool}
-use lib.Ieee.{Float}
 use Rattle.evaluation.specs.OnSheets.{better}
 use borrow.Author.Needs.{needs}
 use Rattle.evaluation.proofs.is_better.Statement.{statement}

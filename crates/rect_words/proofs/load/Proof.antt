@@ -1,4 +1,4 @@
--- `guillotine::load` meets its contract: the first rectangles of the array are those of the words. The measure is what is left of the count.
+-- `rect_words::load` meets its contract: the first rectangles of the array are those of the words. The measure is what is left of the count.
 use mathlib.Core.Path.{_≡_, refl, sym, ap, _∙_}
 use Prim.Native.Nat.{ℕ, _-_, _≤_, _<_}
 use native.Mathlib.Omega.{arith}

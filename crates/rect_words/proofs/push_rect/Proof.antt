@@ -1,4 +1,4 @@
--- `guillotine::push_rect` meets its contract: a rectangle behind the last.
+-- `rect_words::push_rect` meets its contract: a rectangle behind the last.
 use mathlib.Core.Path.{_∙_}
 use native.Mathlib.Omega.{arith}
 use denote.Ref.{now}

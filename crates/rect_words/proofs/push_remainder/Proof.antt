@@ -1,4 +1,4 @@
--- `guillotine::push_remainder` meets its contract: one push or none.
+-- `rect_words::push_remainder` meets its contract: one push or none.
 use mathlib.Core.List.{append-nil}
 use mathlib.Core.Path.{sym}
 use native.Mathlib.Omega.{arith}

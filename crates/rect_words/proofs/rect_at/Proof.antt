@@ -1,4 +1,4 @@
--- `guillotine::rect_at` meets its contract: four words.
+-- `rect_words::rect_at` meets its contract: four words.
 use borrow.Author.Needs.{needs}
 use Rattle.rect_words.specs.SheetWords.{rectAt}
 use Rattle.rect_words.proofs.rect_at.Statement.{statement}

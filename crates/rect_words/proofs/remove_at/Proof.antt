@@ -1,4 +1,4 @@
--- `guillotine::remove_at` meets its contract: the last rectangle in the place of another.
+-- `rect_words::remove_at` meets its contract: the last rectangle in the place of another.
 use mathlib.Core.Path.{_≡_, _∙_}
 use Prim.Native.Nat.{suc, _-_}
 use native.Mathlib.Omega.{arith}

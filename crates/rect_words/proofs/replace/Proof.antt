@@ -1,4 +1,4 @@
--- `guillotine::replace` meets its contract: a removal and two pushes in a row.
+-- `rect_words::replace` meets its contract: a removal and two pushes in a row.
 use denote.Ref.{now}
 use borrow.Author.Needs.{needs}
 use Rattle.rect_words.proofs.Replacing.{ready-first, ready-second, with-both}

@@ -1,4 +1,4 @@
--- `guillotine::store` meets its contract: the count, then the rectangles.
+-- `rect_words::store` meets its contract: the count, then the rectangles.
 use mathlib.Core.Path.{_≡_, sym, _∙_}
 use native.Mathlib.Omega.{arith}
 use denote.Ref.{now}

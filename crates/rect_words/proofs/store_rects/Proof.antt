@@ -1,4 +1,4 @@
--- `guillotine::store_rects` meets its contract: the words are those with the first rectangles replaced. The measure is what is left of the count.
+-- `rect_words::store_rects` meets its contract: the words are those with the first rectangles replaced. The measure is what is left of the count.
 use mathlib.Core.List.{List}
 use mathlib.Core.Path.{_≡_, refl, sym, ap, _∙_}
 use Prim.Native.Nat.{ℕ, _-_, _≤_, _<_}

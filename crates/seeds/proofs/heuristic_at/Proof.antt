@@ -1,8 +1,8 @@
 -- `seeds::heuristic_at` meets its contract.
 use native.Mathlib.Omega.{arith}
-use mathlib.Core.Path.{_≡_, refl, sym, _∙_}
+use mathlib.Core.Path.{_≡_, sym, _∙_}
 use lib.ListN.{length}
-use Rattle.model.specs.Search.{heuristic, defaultHeuristic}
+use Rattle.model.specs.Search.{defaultHeuristic}
 use Rattle.seeds.proofs.Nth.{row-at, no-row}
 use borrow.Author.Needs.{needs}
 use Rattle.lists.proofs.Maps.{counted}

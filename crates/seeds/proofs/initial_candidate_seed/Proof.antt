@@ -7,7 +7,7 @@ use lib.ListN.{length, take, drop}
 use Rattle.model.specs.TinyPrng.{wrap}
 use Rattle.generator.specs.Shuffle.{shuffled}
 use Rattle.seeds.specs.Rows.{sortedSeeds}
-use Rattle.seeds.proofs.Nth.{sorted-most, is-sorted, is-shuffled}
+use Rattle.seeds.proofs.Nth.{is-sorted, is-shuffled}
 use borrow.Author.Needs.{needs}
 use Rattle.lists.proofs.Maps.{counted}
 use Rattle.seeds.proofs.initial_candidate_seed.Statement.{statement}
