@@ -164,13 +164,7 @@ pub fn move_board(boards: [u32; 64], from: usize, to: usize) -> [u32; 64]
     ensures { λ r. ⌜ r ≡ movedUp boards from to ⌝ }
 {
     let mut after = boards;
-    let board = after[from];
-    let mut i = from;
-    while to < i {
-        after[i] = after[i - 1];
-        i -= 1;
-    }
-    after[to] = board;
+    orders::insert_word(&mut after, from, to, boards[from]);
     after
 }
 
