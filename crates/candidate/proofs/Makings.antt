@@ -62,12 +62,7 @@ module _ (words : List ℕ) (word board : ℕ) where
       ∙ ap (λ (b : Bool). onBoard board words ++ (if b then word ∷ [] else [])) (ne-eqb (boardOf word) board e)
       ∙ append-nil (onBoard board words)
 
--- all of them, and none of them
-pub on-all : (board : ℕ) (words : List ℕ) → All (λ w. boardOf w ≡ board) words → onBoard board words ≡ words
-unfolding onBoard retain
-on-all board [] h = refl
-on-all board (w ∷ words) h = rw (eq-eqb (boardOf w) board (h .0)) (ap (λ (l : List ℕ). w ∷ l) (on-all board words (h .1)))
-
+-- none of them
 pub on-none : (board : ℕ) (words : List ℕ) → All (λ w. boardOf w ≡ board → ⊥) words → onBoard board words ≡ []
 unfolding onBoard retain
 on-none board [] h = refl
