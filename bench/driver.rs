@@ -244,6 +244,7 @@ fn damaged(files: &[&[u8]], dice: &mut Dice) -> Vec<u8> {
 fn damage(seed: u64, count: u64) {
     let bytes = input();
     let files = records(&bytes);
+    assert!(!files.is_empty(), "no project on standard input");
     let (mut memory, mut counts, mut dice) = (Memory::new(), Counts::new(), Dice(seed | 1));
     for _ in 0..count {
         let file = damaged(&files, &mut dice);
