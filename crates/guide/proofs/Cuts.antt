@@ -15,11 +15,13 @@ use Rattle.model.specs.Split.{bottomRemainder, rightRemainder}
 use Rattle.model.specs.Guide.{SliceNode, LeafKind, cut, leaf, free, span, cutOff}
 use Rattle.model.specs.Plan.{nodeWords}
 use Rattle.trust.proofs.Guide.{guideCutOf, guideCut-some}
+use Rattle.free_rects.specs.declared.Remainder.{Remainder}
+use Rattle.free_rects.specs.FreeList.{remainderOf}
+use Rattle.free_rects.specs.Bounds.{Small, Inside}
 use Rattle.guide.specs.declared.Node.{Node}
-use Rattle.guide.specs.declared.Remainder.{Remainder}
 use Rattle.guide.specs.declared.CutOff.{CutOff}
 use Rattle.guide.specs.declared.Subtree.{Subtree}
-use Rattle.guide.specs.Words.{wordsOf, remainderOf, beforeWords, afterWords, subtreeWords, guideWords, treeWords, Cuttable, CutsOff, InCorner}
+use Rattle.guide.specs.Words.{wordsOf, beforeWords, afterWords, subtreeWords, guideWords, treeWords, Cuttable, CutsOff, InCorner}
 use Rattle.guide.proofs.Trees.{treeWords-cut, treeWords-leaf, guideWords-some, guideWords-none}
 
 module _ (work : Rect) (o : Direction) (offset kerf : ℕ) where
@@ -36,7 +38,7 @@ module _ (work : Rect) (o : Direction) (offset kerf : ℕ) where
       ∙ treeWords-cut (guideCutOf work o offset kerf) node (leaf r free)
       ∙ ap (λ (l : List ℕ). nodeWords (cut (guideCutOf work o offset kerf) node (leaf r free)) ++ (treeWords node ++ l)) (treeWords-leaf r free)
 
-  pub cut-off-around : (rest : Remainder) (r : Rect) → rest ≡ Remainder.Of r → Cuttable work o offset kerf (remainderOf rest) → (before after : Node)
+  pub cut-off-around : (rest : Remainder) (r : Rect) → rest ≡ Remainder.One r → Cuttable work o offset kerf (remainderOf rest) → (before after : Node)
       → ((a b : SliceNode) → wordsOf before ≡ nodeWords (cut (guideCutOf work o offset kerf) a b)) → wordsOf after ≡ nodeWords (leaf r free)
       → CutsOff work o offset kerf rest (CutOff.Around before after)
   cut-off-around rest r e h before after p q =
@@ -84,3 +86,7 @@ module _ (kerf : ℕ) (f p : Rect) (h : InCorner f p) where
   unfolding rightRemainder
   right-cuttable rest work long e l s =
       rw e (either (ltb kerf (f .width - p .width)) _ work Direction.Vertical (p .width) (omega arith) l (h .wide) (λ t. omega (arith, ltb-true kerf (f .width - p .width) t)))
+
+-- as the split asks for it
+pub splittable : (f p : Rect) → InCorner f p → Small f × Inside p f
+splittable f p h = (record { across = h .right; along = h .bottom }, record { across = h .width; along = h .length })

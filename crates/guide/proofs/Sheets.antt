@@ -1,9 +1,10 @@
 -- The guide of a sheet along its making: what the plan's writer shows at each call.
 use mathlib.Core.Path.{_≡_, refl}
 use mathlib.Core.List.{List}
-use Prim.Native.Nat.{ℕ, _+_, _*_, _^_, _≤_, _<_}
+use Prim.Native.Nat.{ℕ, _+_, _*_, _≤_, _<_}
 use native.Mathlib.Omega.{arith}
 use lib.ListN.{length}
+use Rattle.model.specs.Refusal.{mostSide}
 use Rattle.model.specs.Split.{splitDirection}
 use Rattle.model.specs.Merge.{mergesAny}
 use Rattle.model.specs.Guide.{cut}
@@ -22,7 +23,7 @@ module _ (kerf : ℕ) (s : GuillotineSheet) (i : Insertion) (p : Place) where
   unfolding insertAt splitTree splitGuide
   next-guide-is = refl
 
-  pub in-corner : 0 < i .cut .width → 0 < i .cut .length → s .stock .width < 2 ^ 32 → s .stock .length < 2 ^ 32 → Good s i p → Sound kerf s → InCorner (p .freeRect) (p .fit .rect)
+  pub in-corner : 0 < i .cut .width → 0 < i .cut .length → s .stock .width ≤ mostSide → s .stock .length ≤ mostSide → Good s i p → Sound kerf s → InCorner (p .freeRect) (p .fit .rect)
   in-corner w l sw sl g h =
       let positive = lies-positive (i .cut) p w l (g .fits .lies) in
       let within = layout-perm (chosen-first kerf s i p g) h .within .0 in

@@ -11,10 +11,12 @@ use Rattle.lists.specs.Parts.{part}
 use Rattle.model.specs.declared.Rect.{Rect}
 use Rattle.model.specs.declared.Direction.{Direction}
 use Rattle.model.specs.declared.CutInstance.{CutInstance}
+use Rattle.model.specs.Refusal.{mostSide}
 use Rattle.model.specs.Guide.{SliceNode, span, cutOff, insertSubtree, replaceFreeLeaf}
 use Rattle.model.specs.Plan.{rectWords, nodeWords, preorder, nodesOf, sawLength}
+use Rattle.free_rects.specs.declared.Remainder.{Remainder}
+use Rattle.free_rects.specs.FreeList.{remainderOf}
 use Rattle.guide.specs.declared.Node.{Node}
-use Rattle.guide.specs.declared.Remainder.{Remainder}
 use Rattle.guide.specs.declared.CutOff.{CutOff}
 use Rattle.guide.specs.declared.Subtree.{Subtree}
 
@@ -22,10 +24,6 @@ use Rattle.guide.specs.declared.Subtree.{Subtree}
 
 abbrev pub wordsOf : Node → List ℕ
 wordsOf n = n .kind ∷ n .first ∷ n .second ∷ n .third ∷ rectWords (n .rect)
-
-abbrev pub remainderOf : Remainder → List Rect
-remainderOf Remainder.Nothing = []
-remainderOf (Remainder.Of r) = r ∷ []
 
 abbrev pub beforeWords : CutOff → List ℕ
 beforeWords CutOff.Nothing = []
@@ -63,14 +61,14 @@ spliced words count at nodes = take (8 * at) words ++ (nodes ++ part words (8 * 
 
 -- ---- an insertion
 
--- a piece for which a free rectangle has room at its corner, in coordinates of 32 bits
+-- a piece for which a free rectangle has room at its corner, on a board of the rack
 pub record InCorner (freeRect placed : Rect) : Type 0 where
   pub wide : 0 < placed .width
   pub long : 0 < placed .length
   pub width : placed .width ≤ freeRect .width
   pub length : placed .length ≤ freeRect .length
-  pub right : freeRect .x + freeRect .width < 2 ^ 32
-  pub bottom : freeRect .y + freeRect .length < 2 ^ 32
+  pub right : freeRect .x + freeRect .width ≤ mostSide
+  pub bottom : freeRect .y + freeRect .length ≤ mostSide
 
 -- what Cut::new asks of the cut of a remainder
 abbrev pub Cuttable : Rect → Direction → ℕ → ℕ → List Rect → Type 0

@@ -8,13 +8,14 @@ ghost use lib.ListN.{length, take, drop};
 ghost use Rattle.lists.specs.Parts.{part, patch};
 ghost use Rattle.model.specs.declared.Direction.{Direction};
 ghost use Rattle.model.specs.Types.{sameRect, directionCode, cutKey};
-ghost use Rattle.model.specs.Split.{bottomRemainder, rightRemainder};
 ghost use Rattle.model.specs.Guide.{SliceNode, leaf, free, cutPiece, insertSubtree};
 ghost use Rattle.model.specs.Guide.{cut as cutOf};
 ghost use Rattle.model.specs.Plan.{nodeWords};
 ghost use Rattle.trust.proofs.Guide.{guideCutOf};
-ghost use Rattle.guide.specs.Words.{wordsOf, remainderOf, beforeWords, afterWords, subtreeWords, spliced, guideWords, Guided, Became, Becomes, Replaces, InCorner, Cuttable, CutsOff, nextGuide, sawAt, Sawn, Sawable};
+ghost use Rattle.free_rects.specs.FreeList.{remainderOf};
+ghost use Rattle.guide.specs.Words.{wordsOf, beforeWords, afterWords, subtreeWords, spliced, guideWords, Guided, Became, Becomes, Replaces, InCorner, Cuttable, CutsOff, nextGuide, sawAt, Sawn, Sawable};
 ghost use Rattle.guide.specs.Leaves.{rectAt, leafAt, Formed, Ends};
+use free_rects::Remainder;
 use model::CutInstance;
 use model::Direction;
 use model::Rect;
@@ -26,12 +27,6 @@ pub struct Node {
     pub second: u32,
     pub third: u32,
     pub rect: Rect,
-}
-
-// What a split leaves on one side of a piece.
-pub enum Remainder {
-    Nothing,
-    Of(Rect),
 }
 
 // The cut that takes a remainder off, and the remainder's leaf.
@@ -103,38 +98,6 @@ fn free_node(rect: Rect) -> Node
 
 // ---- the subtree of an insertion
 
-fn bottom_remainder(kerf: u32, free_rect: Rect, placed: Rect, width: u32) -> Remainder
-    requires { ⌜ InCorner «free_rect» placed ⌝ }
-    ensures { λ r. ⌜ remainderOf r ≡ bottomRemainder kerf «free_rect» placed width ⌝ }
-{
-    let remaining = free_rect.length - placed.length;
-    if remaining <= kerf {
-        return Remainder::Nothing;
-    }
-    Remainder::Of(Rect {
-        x: free_rect.x,
-        y: free_rect.y + placed.length + kerf,
-        width: width,
-        length: remaining - kerf,
-    })
-}
-
-fn right_remainder(kerf: u32, free_rect: Rect, placed: Rect, length: u32) -> Remainder
-    requires { ⌜ InCorner «free_rect» placed ⌝ }
-    ensures { λ r. ⌜ remainderOf r ≡ rightRemainder kerf «free_rect» placed length ⌝ }
-{
-    let remaining = free_rect.width - placed.width;
-    if remaining <= kerf {
-        return Remainder::Nothing;
-    }
-    Remainder::Of(Rect {
-        x: free_rect.x + placed.width + kerf,
-        y: free_rect.y,
-        width: remaining - kerf,
-        length: length,
-    })
-}
-
 // A remainder's cut is one that Cut::new takes.
 fn cut_off(
     work: Rect,
@@ -148,7 +111,7 @@ fn cut_off(
 {
     match remainder {
         Remainder::Nothing => CutOff::Nothing,
-        Remainder::Of(rect) => CutOff::Around(
+        Remainder::One(rect) => CutOff::Around(
             cut_node(work, orientation, offset, kerf),
             free_node(rect),
         ),
@@ -170,8 +133,8 @@ fn guillotine_horizontal_insert_subtree(
         width: free_rect.width,
         length: placed.length,
     };
-    let right = right_remainder(kerf, free_rect, placed, placed.length);
-    let bottom = bottom_remainder(kerf, free_rect, placed, free_rect.width);
+    let right = free_rects::right_remainder(free_rect, placed, kerf, Direction::Horizontal);
+    let bottom = free_rects::bottom_remainder(free_rect, placed, kerf, Direction::Horizontal);
     Subtree {
         outer: cut_off(
             free_rect,
@@ -200,8 +163,8 @@ fn guillotine_vertical_insert_subtree(
         width: placed.width,
         length: free_rect.length,
     };
-    let bottom = bottom_remainder(kerf, free_rect, placed, placed.width);
-    let right = right_remainder(kerf, free_rect, placed, free_rect.length);
+    let bottom = free_rects::bottom_remainder(free_rect, placed, kerf, Direction::Vertical);
+    let right = free_rects::right_remainder(free_rect, placed, kerf, Direction::Vertical);
     Subtree {
         outer: cut_off(free_rect, Direction::Vertical, placed.width, kerf, right),
         inner: cut_off(left, Direction::Horizontal, placed.length, kerf, bottom),

@@ -5,7 +5,7 @@ use borrow.Author.Needs.{needs}
 use Rattle.model.specs.declared.Rect.{Rect}
 use Rattle.model.specs.Types.{rect}
 use Rattle.model.specs.Guide.{insertSubtree}
-use Rattle.guide.proofs.Cuts.{subtree-words, bottom-cuttable, right-cuttable}
+use Rattle.guide.proofs.Cuts.{subtree-words, bottom-cuttable, right-cuttable, splittable}
 use Rattle.guide.proofs.guillotine_horizontal_insert_subtree.Statement.{statement}
 use Rattle.guide.proofs.guillotine_horizontal_insert_subtree.Tie as tie
 
@@ -13,10 +13,10 @@ abbrev top : tie.Start → Rect
 top s = rect (s .args .free-rect .x) (s .args .free-rect .y) (s .args .free-rect .width) (s .args .placed .length)
 
 right-remainder-requires : tie.Need-right-remainder-requires
-right-remainder-requires c κs = search needs
+right-remainder-requires c κs = splittable _ _ (c .pre)
 
 bottom-remainder-requires : tie.Need-bottom-remainder-requires
-bottom-remainder-requires c κs = search needs
+bottom-remainder-requires c κs = splittable _ _ (c .before .pre)
 
 cut-off-requires : tie.Need-cut-off-requires
 cut-off-requires c κs =
