@@ -19,10 +19,11 @@ use Rattle.model.specs.declared.FitResult.{FitResult}
 use Rattle.model.specs.Choice.{freeRectChoiceScore}
 use Rattle.model.specs.Fit.{fitCutInRects}
 use Rattle.model.specs.Sheet.{GuillotineSheet, Place, places, scoreLess, bestPlace}
-use Rattle.fits.specs.declared.Ways.{Ways}
-use Rattle.fits.specs.declared.Score.{Score}
-use Rattle.fits.specs.Orientation.{waysToLie, liesAnyWay, fitsByWays}
-use Rattle.fits.specs.Numbers.{numbersOf}
+use Rattle.patterns.specs.declared.Ways.{Ways}
+use Rattle.choice.specs.declared.Score.{Score}
+use Rattle.patterns.specs.Orientation.{waysToLie}
+use Rattle.fits.specs.ByWays.{liesAnyWay, fitsByWays}
+use Rattle.choice.specs.Numbers.{numbersOf}
 use Rattle.fits.proofs.Orientations.{any-way, fits-by-ways-all}
 use Rattle.best_place.specs.declared.BestFit.{BestFit}
 use Rattle.best_place.specs.declared.BestFit.the-variants.{Nothing, At}

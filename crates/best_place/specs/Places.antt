@@ -13,9 +13,9 @@ use Rattle.model.specs.declared.CutInstance.{CutInstance}
 use Rattle.model.specs.declared.FitResult.{FitResult}
 use Rattle.model.specs.Choice.{freeRectChoiceScore}
 use Rattle.model.specs.Sheet.{GuillotineSheet, Place, scoreLess, bestPlace}
-use Rattle.fits.specs.declared.Ways.{Ways}
-use Rattle.fits.specs.Orientation.{liesAnyWay, fitsByWays}
-use Rattle.fits.specs.Numbers.{numbersOf}
+use Rattle.patterns.specs.declared.Ways.{Ways}
+use Rattle.fits.specs.ByWays.{liesAnyWay, fitsByWays}
+use Rattle.choice.specs.Numbers.{numbersOf}
 use Rattle.best_place.specs.declared.BestFit.{BestFit}
 use Rattle.best_place.specs.declared.BestFit.the-variants.{Nothing, At}
 use Rattle.rect_words.specs.SheetWords.{Shows}

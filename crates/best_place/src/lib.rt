@@ -1,17 +1,17 @@
 // The best place of a cut among a sheet's free rectangles: the first fit of lowest score. A search that finds none reads two words a rectangle.
+use choice::Score;
 use fits::Fits;
-use fits::Score;
-use fits::Ways;
 use model::BaselineGuillotineHeuristic;
 use model::CutInstance;
 use model::FitResult;
 use model::PatternDirection;
 use model::Rect;
+use patterns::Ways;
 ghost use mathlib.Core.Path.{_≡_};
 ghost use mathlib.Core.List.{_∷_, [], map};
 ghost use Prim.Native.Nat.{_≤_};
 ghost use lib.ListN.{drop};
-ghost use Rattle.fits.specs.Orientation.{fitsByWays};
+ghost use Rattle.fits.specs.ByWays.{fitsByWays};
 ghost use Rattle.rect_words.specs.SheetWords.{rectsIn, mostRects, Block};
 ghost use Rattle.best_place.specs.declared.BestFit.{BestFit};
 ghost use Rattle.best_place.specs.Places.{nextFit, placeAt, placesByWays, Scored, Over, FindsBest};
@@ -21,7 +21,7 @@ fn next_fit(sheet: &[u32], ways: Ways, width: u32, length: u32, from: usize) -> 
     requires { ⌜ Block (now sheet) × (from ≤ mostRects) ⌝ }
     ensures { λ r. ⌜ r ≡ nextFit ways width length from (drop from (rectsIn (now (sheet .entry)))) ⌝ }
 {
-    let count = rect_words::wide(sheet[0]);
+    let count = sheet[0] as usize;
     let mut index = from;
     while index < count {
         let at = 4 * index + 1;
@@ -57,7 +57,7 @@ fn consider_fit(
 {
     let choice = heuristic.rect_choice;
     let placed = fit.rect;
-    let score = fits::free_rect_choice_score(free_rect, placed, choice);
+    let score = choice::free_rect_choice_score(free_rect, placed, choice);
     let next = BestFit::At {
         index: index,
         free_rect: free_rect,
@@ -72,7 +72,7 @@ fn consider_fit(
             fit: _,
             score: least,
         } => {
-            if fits::score_less(score, least) {
+            if choice::score_less(score, least) {
                 next
             } else {
                 best
@@ -116,7 +116,7 @@ fn best_fit_from(
     requires { ⌜ Block (now sheet) ⌝ }
     ensures { λ r. ⌜ Over heuristic BestFit.Nothing (placesByWays ways cut (heuristic .rotation) first (drop first (rectsIn (now (sheet .entry))))) r ⌝ }
 {
-    let count = rect_words::wide(sheet[0]);
+    let count = sheet[0] as usize;
     let mut best = BestFit::Nothing;
     let mut index = first;
     while index < count {
@@ -137,9 +137,9 @@ pub fn best_fit(
     requires { ⌜ Block (now sheet) ⌝ }
     ensures { λ r. ⌜ FindsBest (now (sheet .entry)) cut «stock_pattern» heuristic r ⌝ }
 {
-    let ways = fits::ways_to_lie(cut, stock_pattern);
+    let ways = patterns::ways_to_lie(cut, stock_pattern);
     let first = next_fit(sheet, ways, cut.width, cut.length, 0);
-    if first < rect_words::wide(sheet[0]) {
+    if first < sheet[0] as usize {
         best_fit_from(sheet, ways, cut, heuristic, first)
     } else {
         BestFit::Nothing

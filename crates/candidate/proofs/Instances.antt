@@ -7,7 +7,7 @@ use lib.ListN.{length}
 use Rattle.lists.specs.Base.{range}
 use Rattle.lists.proofs.Sums.{length-map, length-countFrom}
 use Rattle.lists.proofs.Counts.{getD-range}
-use Rattle.orders.specs.Rows.{stockWords, cutWords, stockAt, cutAt}
+use Rattle.rows.specs.Rows.{stockWords, cutWords, stockAt, cutAt}
 use Rattle.candidate.specs.declared.Instance.{Instance}
 use Rattle.candidate.specs.Stands.{instanceIn, Tables, noStock, noCut, boardIn, cutIn}
 

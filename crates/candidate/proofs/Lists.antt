@@ -12,7 +12,7 @@ use Rattle.lists.proofs.Counts.{count-rises}
 use Rattle.lists.proofs.Every.{all-get, pairs-each}
 use Rattle.lists.proofs.Maps.{map-same}
 use Rattle.lists.proofs.Arrays.{removeAt-split, take-removeAt}
-use Rattle.orders.specs.Rows.{insertAt}
+use Rattle.copying.specs.Inserted.{insertAt}
 
 -- ---- lists without repetition
 

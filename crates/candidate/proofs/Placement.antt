@@ -23,7 +23,7 @@ use Rattle.model.specs.Expand.{ProblemInstance}
 use Rattle.trust.proofs.Winner.{Admitted}
 use Rattle.trust.proofs.Ranges.{Ranged}
 use Rattle.trust.proofs.Proper.{place-proper}
-use Rattle.orders.specs.Rows.{insertAt}
+use Rattle.copying.specs.Inserted.{insertAt}
 use Rattle.candidate.specs.declared.Candidate.{Candidate as Words}
 use Rattle.candidate.specs.Entries.{insertionWord, boardOf, cutOf}
 use Rattle.candidate.specs.Moves.{movedUp, withInsertion, withUnused, withSheet, firstFitIn, takePlace}

@@ -7,7 +7,7 @@ use Rattle.lists.specs.Base.{if_then_else_, isSome, range, removeAt}
 use Rattle.model.specs.declared.BaselineGuillotineHeuristic.{BaselineGuillotineHeuristic}
 use Rattle.model.specs.Sheet.{GuillotineSheet, Insertion, tryInsert}
 use Rattle.model.specs.Expand.{ProblemInstance}
-use Rattle.orders.specs.Rows.{insertAt}
+use Rattle.copying.specs.Inserted.{insertAt}
 use Rattle.candidate.specs.declared.Candidate.{Candidate as Words}
 use Rattle.candidate.specs.Entries.{insertionWord}
 use Rattle.candidate.specs.Stands.{cutIn, binIn, placedWords}

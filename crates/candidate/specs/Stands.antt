@@ -16,7 +16,7 @@ use Rattle.model.specs.Expand.{ProblemInstance}
 use Rattle.trust.proofs.Winner.{Admitted}
 use Rattle.trust.proofs.Ranges.{Ranged}
 use Rattle.trust.proofs.Proper.{UnderWay}
-use Rattle.orders.specs.Rows.{stockWords, cutWords, stockAt, cutAt}
+use Rattle.rows.specs.Rows.{stockWords, cutWords, stockAt, cutAt}
 use Rattle.candidate.specs.declared.Instance.{Instance}
 use Rattle.candidate.specs.declared.Candidate.{Candidate as Words}
 use Rattle.candidate.specs.Entries.{boardOf, cutOf, rowOf, onBoard}

@@ -164,7 +164,7 @@ pub fn move_board(boards: [u32; 64], from: usize, to: usize) -> [u32; 64]
     ensures { λ r. ⌜ r ≡ movedUp boards from to ⌝ }
 {
     let mut after = boards;
-    orders::insert_word(&mut after, from, to, boards[from]);
+    copying::insert_word(&mut after, from, to, boards[from]);
     after
 }
 

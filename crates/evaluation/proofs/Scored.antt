@@ -19,7 +19,7 @@ use Rattle.trust.proofs.Proper.{SheetProper}
 use Rattle.trust.proofs.Scores.{placedAreas, placed-areas-most, score-is}
 use Rattle.trust.proofs.CandidateSize.{candidate-counts}
 use Rattle.fitness.specs.Areas.{fitnessOf}
-use Rattle.fitness.specs.Scores.{scoreOf}
+use Rattle.scores.specs.Scores.{scoreOf}
 use Rattle.fitness.proofs.Sheets.{boardArea, usedStockArea-areas, fitness-areas, fitness-counted}
 use Rattle.candidate.specs.declared.Instance.{Instance}
 use Rattle.candidate.specs.declared.Candidate.{Candidate as Words}

@@ -26,7 +26,7 @@ use Rattle.trust.proofs.Sheet.{all-inserted}
 use Rattle.trust.proofs.Proper.{SheetProper}
 use Rattle.trust.proofs.Scores.{sheet-area}
 use Rattle.trust.proofs.CandidateSize.{cut-area-most}
-use Rattle.orders.specs.Rows.{stockAt, cutAt}
+use Rattle.rows.specs.Rows.{stockAt, cutAt}
 use Rattle.candidate.specs.declared.Instance.{Instance}
 use Rattle.candidate.specs.declared.Candidate.{Candidate as Words}
 use Rattle.candidate.specs.Entries.{boardOf, cutOf, onBoard}

@@ -12,7 +12,7 @@ use Rattle.model.specs.Sheet.{GuillotineSheet, newSheet, placedArea}
 use Rattle.model.specs.Fitness.{sheetFitness, compareFloat}
 use Rattle.model.specs.Candidate.{CandidateScore, worstBin, score}
 use Rattle.model.specs.Expand.{ProblemInstance}
-use Rattle.orders.specs.Rows.{cutWords, cutAt}
+use Rattle.rows.specs.Rows.{cutWords, cutAt}
 use Rattle.fitness.specs.Areas.{shareOf}
 use Rattle.candidate.specs.Entries.{boardOf, cutOf, onBoard}
 use Rattle.candidate.specs.declared.Candidate.{Candidate as Words}

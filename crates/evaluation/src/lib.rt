@@ -1,7 +1,7 @@
 // What a candidate is worth: the areas and the fitness of its sheets, its validity and its score.
 use candidate::Candidate;
 use candidate::Instance;
-use fitness::CandidateScore;
+use scores::CandidateScore;
 ghost use mathlib.Core.Path.{_≡_};
 ghost use mathlib.Core.List.{List, [], map};
 ghost use mathlib.Core.Option.{some};
@@ -13,7 +13,7 @@ ghost use Rattle.model.specs.Sheet.{GuillotineSheet};
 ghost use Rattle.model.specs.Candidate.{isValid};
 ghost use Rattle.model.specs.Expand.{ProblemInstance};
 ghost use Rattle.trust.proofs.Winner.{Admitted};
-ghost use Rattle.fitness.specs.Scores.{scoreOf};
+ghost use Rattle.scores.specs.Scores.{scoreOf};
 ghost use Rattle.candidate.specs.Entries.{cutOf};
 ghost use Rattle.candidate.specs.Stands.{instanceIn, Tables, candidateIn, Stands, placedWords};
 ghost use Rattle.evaluation.specs.OnSheets.{wordArea, placedOn, InTables, AreasOf, better, IsFirstBest, IsWorst, IsBestDonor, scoreIn};
@@ -37,8 +37,8 @@ fn placed_on_boards(cuts: &[u32], insertions: &[u32]) -> [u64; 64]
     while i < insertions.len() {
         let word = insertions[i];
         let board = candidate::board_of(word) as usize;
-        let cut = orders::cut_at(cuts, candidate::cut_of(word) as usize);
-        areas[board] = areas[board] + fitness::area(cut.width, cut.length);
+        let cut = rows::cut_at(cuts, candidate::cut_of(word) as usize);
+        areas[board] = areas[board] + numbers::area(cut.width, cut.length);
         i += 1;
     }
     areas
@@ -56,9 +56,9 @@ pub fn sheet_areas(stock: &[u32], cuts: &[u32], inst: Instance, c: Candidate) ->
     let mut k: usize = 0;
     while k < c.sheets {
         let board = c.boards[k] as usize;
-        let s = orders::stock_at(stock, board);
+        let s = rows::stock_at(stock, board);
         placed[k] = by_board[board];
-        areas[k] = fitness::area(s.width, s.length);
+        areas[k] = numbers::area(s.width, s.length);
         k += 1;
     }
     Areas {
@@ -72,9 +72,9 @@ fn is_better(fittest: bool, f: f64, best: f64) -> bool
     ensures { λ r. ⌜ r ≡ better fittest f best ⌝ }
 {
     if fittest {
-        return fitness::is_fitter(f, best);
+        return scores::is_fitter(f, best);
     }
-    fitness::is_less_fit(f, best)
+    scores::is_less_fit(f, best)
 }
 
 // The first fittest sheet, or the first least fit one.

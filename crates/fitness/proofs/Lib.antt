@@ -1,4 +1,3 @@
-pub mod Order
 pub mod Shares
 pub mod Sheets
 pub mod Bounds

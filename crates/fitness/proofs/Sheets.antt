@@ -1,5 +1,5 @@
 -- The definition's fitness depends only on the sheets' placed areas and board areas.
-use mathlib.Core.Path.{_≡_, refl, sym, ap, ap₂, _∙_}
+use mathlib.Core.Path.{_≡_, refl, ap, _∙_}
 use mathlib.Core.List.{List, [], _∷_, map}
 use mathlib.Core.Option.{none, some, Option·getD}
 use Prim.Native.Nat.{ℕ, _+_, _-_, _≤_, _<_}
@@ -10,13 +10,9 @@ use lib.ListN.{length}
 use lib.Ieee.{Float, binary64, add, div}
 use Rattle.lists.specs.Base.{if_then_else_, sum, foldl}
 use Rattle.lists.proofs.Perm.{All}
-use Rattle.model.specs.declared.CutInstance.{CutInstance}
-use Rattle.model.specs.Types.{stockArea, cutArea}
+use Rattle.model.specs.Types.{stockArea}
 use Rattle.model.specs.Sheet.{GuillotineSheet, placedArea}
 use Rattle.model.specs.Fitness.{weight, positiveZero, sheetFitness, weightedFitness, usedStockArea, fitness}
-use Rattle.model.specs.Candidate.{Candidate, placedCutKeys, cutsForKeys, score}
-use Rattle.fitness.specs.declared.CandidateScore.{CandidateScore}
-use Rattle.fitness.specs.Scores.{scoreOf}
 use Rattle.fitness.specs.Areas.{shareOf, weightedShare, addShares, fitnessOf, Inside}
 
 abbrev pub boardArea : GuillotineSheet → ℕ
@@ -58,16 +54,3 @@ fitness-counted (b ∷ bins) h =
   where
     not-zero : (m n : ℕ) → 0 < m → m + n ≡ 0 → ⊥
     not-zero m n k e = omega arith
-
--- the definition's score, by the three numbers that the code keeps
-pub score-is : (catalog : List CutInstance) (c : Candidate) (placed : List CutInstance) (s : CandidateScore)
-    → cutsForKeys catalog (placedCutKeys (c .bins)) ≡ some placed → All (λ b. 0 < boardArea b) (c .bins)
-    → s .«used_stock_count» ≡ length (c .bins) → s .«waste_area» ≡ usedStockArea (c .bins) - sum (map cutArea placed)
-    → s .fitness ≡ Option·getD (fitness (c .bins)) positiveZero → score catalog c ≡ some (scoreOf s)
-unfolding score scoreOf
-score-is catalog c placed s e h used waste fit =
-    rw e (λ i. some (record {
-      usedStockCount = sym used i;
-      wasteArea = sym waste i;
-      fitness = (sym (fitness-counted (c .bins) h) ∙ ap₂ (λ (n : ℕ) (x : Float). if eqb n 0 then none else some x) (sym used) (sym fit)) i;
-    }))

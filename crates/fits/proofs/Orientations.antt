@@ -13,9 +13,10 @@ use Rattle.model.specs.declared.StockInstance.{StockInstance}
 use Rattle.model.specs.declared.FitResult.{FitResult}
 use Rattle.model.specs.Types.{stockRect}
 use Rattle.model.specs.Fit.{patternMatches, rotatePattern, turningMatters, uprightTest, rotatedTest, uprightFit, rotatedFit, uprightResult, rotatedResult, fitCutInRects, cutFitsStock}
-use Rattle.fits.specs.declared.Ways.{Ways}
+use Rattle.patterns.specs.declared.Ways.{Ways}
+use Rattle.patterns.specs.Orientation.{waysToLie}
 use Rattle.fits.specs.FitList.{ifLies}
-use Rattle.fits.specs.Orientation.{waysToLie, liesUpright, liesRotated, liesAnyWay, fitsByWays}
+use Rattle.fits.specs.ByWays.{liesUpright, liesRotated, liesAnyWay, fitsByWays}
 
 regroup : (a b c d : Bool) → (a && (b && c && d)) ≡ (a && b && c && d)
 regroup true b c d = refl

@@ -1,3 +1,2 @@
 pub mod FitList
-pub mod Orientation
-pub mod Numbers
+pub mod ByWays

@@ -1,3 +1,2 @@
 pub mod FreeList
 pub mod Bounds
-pub mod Merging

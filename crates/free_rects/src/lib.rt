@@ -1,19 +1,15 @@
-// The free rectangles of a sheet by value: `swap_remove` and `push` of a vector, the split of a rectangle, and the merging
-// of those that lie a kerf apart (`split_free_rect_in_direction`, `merge_adjacent_rects`, `merge_free_rects`).
+// The free rectangles of a sheet by value: `swap_remove` and `push` of a vector, and the split of a rectangle
+// (`split_free_rect_in_direction`).
 use model::Direction;
 use model::Rect;
 ghost use mathlib.Core.Path.{_≡_};
 ghost use mathlib.Core.List.{_∷_, [], _++_};
-ghost use mathlib.Core.Option.{some};
-ghost use Prim.Native.Nat.{_≤_, _<_, _+_, _-_, max};
-ghost use Rattle.lists.specs.Base.{isSome, swapRemove};
+ghost use Prim.Native.Nat.{_≤_, _<_, _-_};
+ghost use Rattle.lists.specs.Base.{swapRemove};
 ghost use Rattle.model.specs.Types.{noRect};
-ghost use Rattle.model.specs.Refusal.{mostSide};
 ghost use Rattle.model.specs.Split.{bottomRemainder, rightRemainder, bottomWidth, rightLength, splitFreeRect};
-ghost use Rattle.model.specs.Merge.{stacked, joined, mergeAdjacentRects, firstPair};
 ghost use Rattle.free_rects.specs.FreeList.{rectsOf, Holds, remainderOf};
 ghost use Rattle.free_rects.specs.Bounds.{Small, Inside};
-ghost use Rattle.free_rects.specs.Merging.{sameColumn, sameRow, mergeInRow, mergedOf, pairOf, Scannable, MergesTo};
 
 // A sheet of 64 pieces has at most 65 free rectangles.
 pub struct FreeRects {
@@ -158,183 +154,4 @@ pub fn split_free_rect_in_direction(
     let bottom = bottom_remainder(free_rect, placed, kerf_width, direction);
     let right = right_remainder(free_rect, placed, kerf_width, direction);
     push_remainder(push_remainder(free, bottom), right)
-}
-
-// ---- merging
-
-pub enum Merged {
-    Into(Rect),
-    Nothing,
-}
-
-// Whether two rectangles have the same place and size along x.
-fn same_column(a: Rect, b: Rect) -> bool
-    ensures { λ r. ⌜ r ≡ sameColumn a b ⌝ }
-{
-    if a.x == b.x {
-        a.width == b.width
-    } else {
-        false
-    }
-}
-
-// The same along y.
-fn same_row(a: Rect, b: Rect) -> bool
-    ensures { λ r. ⌜ r ≡ sameRow a b ⌝ }
-{
-    if a.y == b.y {
-        a.length == b.length
-    } else {
-        false
-    }
-}
-
-// The first rectangle, the kerf and the second one below it.
-fn stack(a: Rect, b: Rect, kerf_width: u32) -> Merged
-    requires { ⌜ Small a × Small b × («kerf_width» ≤ mostSide) ⌝ }
-    ensures { λ r. ⌜ mergedOf r ≡ some (stacked «kerf_width» a b) ⌝ }
-{
-    Merged::Into(Rect {
-        x: a.x,
-        y: a.y,
-        width: a.width,
-        length: a.length + kerf_width + b.length,
-    })
-}
-
-// The same beside it.
-fn join(a: Rect, b: Rect, kerf_width: u32) -> Merged
-    requires { ⌜ Small a × Small b × («kerf_width» ≤ mostSide) ⌝ }
-    ensures { λ r. ⌜ mergedOf r ≡ some (joined «kerf_width» a b) ⌝ }
-{
-    Merged::Into(Rect {
-        x: a.x,
-        y: a.y,
-        width: a.width + kerf_width + b.width,
-        length: a.length,
-    })
-}
-
-// Two rectangles side by side: the second half of `merge_adjacent_rects`.
-fn merge_in_row(left: Rect, right: Rect, kerf_width: u32) -> Merged
-    requires { ⌜ Small left × Small right × («kerf_width» ≤ mostSide) ⌝ }
-    ensures { λ r. ⌜ mergedOf r ≡ mergeInRow «kerf_width» left right ⌝ }
-{
-    if same_row(left, right) {
-        if left.x + left.width + kerf_width == right.x {
-            return join(left, right, kerf_width);
-        }
-        if right.x + right.width + kerf_width == left.x {
-            return join(right, left, kerf_width);
-        }
-    }
-    Merged::Nothing
-}
-
-pub fn merge_adjacent_rects(left: Rect, right: Rect, kerf_width: u32) -> Merged
-    requires { ⌜ Small left × Small right × («kerf_width» ≤ mostSide) ⌝ }
-    ensures { λ r. ⌜ mergedOf r ≡ mergeAdjacentRects «kerf_width» left right ⌝ }
-{
-    if same_column(left, right) {
-        if left.y + left.length + kerf_width == right.y {
-            return stack(left, right, kerf_width);
-        }
-        if right.y + right.length + kerf_width == left.y {
-            return stack(right, left, kerf_width);
-        }
-        return merge_in_row(left, right, kerf_width);
-    }
-    merge_in_row(left, right, kerf_width)
-}
-
-// Whether two rectangles merge.
-pub fn merges(left: Rect, right: Rect, kerf_width: u32) -> bool
-    requires { ⌜ Small left × Small right × («kerf_width» ≤ mostSide) ⌝ }
-    ensures { λ r. ⌜ r ≡ isSome (mergeAdjacentRects «kerf_width» left right) ⌝ }
-{
-    let merged = merge_adjacent_rects(left, right, kerf_width);
-    match merged {
-        Merged::Into(_) => true,
-        Merged::Nothing => false,
-    }
-}
-
-// The first pair of rectangles that merge, by the left and then by the right one, and what they make.
-pub enum FoundPair {
-    Nothing,
-    At {
-        left: usize,
-        right: usize,
-        merged: Rect,
-    },
-}
-
-// The first right one to try with a left one: pairs within the first `fresh` are known not to merge.
-fn first_right(left: usize, fresh: usize) -> usize
-    requires { ⌜ left < 65 ⌝ }
-    ensures { λ r. ⌜ r ≡ max (left + 1) fresh ⌝ }
-{
-    let next = left + 1;
-    if next < fresh { fresh } else { next }
-}
-
-pub fn find_pair(free: FreeRects, kerf_width: u32, fresh: usize) -> FoundPair
-    requires { ⌜ Scannable «kerf_width» free fresh ⌝ }
-    ensures { λ r. ⌜ pairOf r ≡ firstPair «kerf_width» (rectsOf free) ⌝ }
-{
-    let count = free.count;
-    let mut found = FoundPair::Nothing;
-    let mut left: usize = 0;
-    'outer: while left < count {
-        let left_rect = free.rects[left];
-        let mut right = first_right(left, fresh);
-        while right < count {
-            let right_rect = free.rects[right];
-            let merged = merge_adjacent_rects(left_rect, right_rect, kerf_width);
-            if let Merged::Into(rect) = merged {
-                found = FoundPair::At {
-                    left: left,
-                    right: right,
-                    merged: rect,
-                };
-                break 'outer;
-            }
-            right += 1;
-        }
-        left += 1;
-    }
-    found
-}
-
-// The free rectangles after all merges, and whether there was one.
-pub struct MergedFree {
-    pub free: FreeRects,
-    pub any: bool,
-}
-
-// After each merge the scan starts again from the first pair; left of the merged one none merges.
-pub fn merge_free_rects(free: FreeRects, kerf_width: u32, fresh: usize) -> MergedFree
-    requires { ⌜ Scannable «kerf_width» free fresh ⌝ }
-    ensures { λ r. ⌜ MergesTo «kerf_width» (rectsOf free) r ⌝ }
-{
-    let mut after = free;
-    let mut any = false;
-    let mut tried = fresh;
-    loop {
-        let FoundPair::At {
-            left,
-            right,
-            merged,
-        } = find_pair(after, kerf_width, tried)
-        else {
-            return MergedFree {
-                free: after,
-                any: any,
-            };
-        };
-        after.rects[left] = merged;
-        after = swap_remove(after, right);
-        any = true;
-        tried = left;
-    }
 }

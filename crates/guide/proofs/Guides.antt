@@ -14,14 +14,18 @@ use Rattle.model.specs.declared.Direction.{Direction}
 use Rattle.model.specs.declared.CutInstance.{CutInstance}
 use Rattle.model.specs.Guide.{SliceNode, cut, leaf, free, insertSubtree, replaceFreeLeaf}
 use Rattle.model.specs.Plan.{nodeWords, preorder, nodesOf}
-use Rattle.guide.specs.declared.Found.{Found}
-use Rattle.guide.specs.declared.Node.{Node}
-use Rattle.guide.specs.declared.Subtree.{Subtree}
-use Rattle.guide.specs.Words.{wordsOf, subtreeWords, guideWords, treeWords, Holds, Became, Becomes, Replaces, Guided, spliced, splitGuide, nextGuide}
-use Rattle.guide.specs.Leaves.{size, Reads, Formed, Ends}
-use Rattle.guide.proofs.Trees.{guideWords-some, guideWords-none, treeWords-leaf, size-cut, size-leaf}
-use Rattle.guide.proofs.Splices.{reads-part, Spliced, Outcome, outcome, spliced-is}
-use Rattle.guide.proofs.Subtrees.{subtree-length}
+use Rattle.subtree.specs.declared.Node.{Node}
+use Rattle.subtree.specs.declared.Subtree.{Subtree}
+use Rattle.subtree.specs.Words.{wordsOf, subtreeWords, guideWords, treeWords}
+use Rattle.subtree.proofs.Trees.{guideWords-some, guideWords-none, treeWords-leaf}
+use Rattle.free_leaf.specs.declared.Found.{Found}
+use Rattle.free_leaf.specs.Leaves.{size, Reads, Formed, Ends}
+use Rattle.free_leaf.proofs.Sizes.{size-cut, size-leaf}
+use Rattle.splice.specs.Splices.{spliced}
+use Rattle.splice.proofs.Subtrees.{subtree-length}
+use Rattle.splice.proofs.Splices.{spliced-is}
+use Rattle.guide.specs.Words.{Holds, Became, Becomes, Replaces, Guided, splitGuide, nextGuide}
+use Rattle.guide.proofs.Outcomes.{reads-part, Spliced, Outcome, outcome}
 
 -- ---- counts
 

@@ -1,9 +1,4 @@
-pub mod Tests
-pub mod Trees
-pub mod Cuts
-pub mod Subtrees
-pub mod Searches
-pub mod Splices
+pub mod Outcomes
 pub mod Guides
 pub mod Saws
 pub mod Sheets

@@ -16,9 +16,9 @@ use Rattle.model.specs.declared.Direction.{Direction}
 use Rattle.model.specs.Types.{noRect, directionCode}
 use Rattle.model.specs.Guide.{SliceNode, cut, leaf, free, cutPiece}
 use Rattle.model.specs.Plan.{nodeWords, nodesOf, alongCut, sawLength}
+use Rattle.free_leaf.specs.Leaves.{nodeAt}
+use Rattle.free_leaf.proofs.Searches.{word, kind}
 use Rattle.guide.specs.Words.{Holds, sawAt}
-use Rattle.guide.specs.Leaves.{nodeAt}
-use Rattle.guide.proofs.Searches.{word, kind}
 
 along : (o : Direction) (r : Rect) → (if eqb (directionCode o) 0 then r .width else r .length) ≡ alongCut o r
 along Direction.Horizontal r = refl

@@ -13,7 +13,8 @@ use Rattle.trust.proofs.Placing.{Good}
 use Rattle.trust.proofs.RectLayout.{layout-perm}
 use Rattle.trust.proofs.Sheet.{Sound, chosen-first, lies-positive}
 use Rattle.trust.proofs.Sizes.{NodeCount}
-use Rattle.guide.specs.Words.{Holds, InCorner, splitGuide, nextGuide}
+use Rattle.subtree.specs.Words.{InCorner}
+use Rattle.guide.specs.Words.{Holds, splitGuide, nextGuide}
 
 -- ---- the definition's steps
 

@@ -15,9 +15,10 @@ use Rattle.model.specs.declared.Direction.{Direction}
 use Rattle.model.specs.Types.{directionCode}
 use Rattle.model.specs.Guide.{GuideCut, LeafKind, SliceNode, cut, leaf, free, cutPiece}
 use Rattle.model.specs.Plan.{nodeWords}
-use Rattle.guide.specs.Words.{treeWords, Holds}
-use Rattle.guide.specs.Leaves.{rectAt}
-use Rattle.guide.proofs.Trees.{treeWords-cut, treeWords-leaf, guideWords-some}
+use Rattle.subtree.specs.Words.{treeWords}
+use Rattle.subtree.proofs.Trees.{treeWords-cut, treeWords-leaf, guideWords-some}
+use Rattle.free_leaf.specs.Leaves.{rectAt}
+use Rattle.guide.specs.Words.{Holds}
 use Rattle.guide.proofs.Guides.{holds-absent, holds-present}
 
 -- ---- what eight words say

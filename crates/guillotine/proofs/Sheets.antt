@@ -22,10 +22,10 @@ use Rattle.model.specs.Merge.{findPair, findRight, mergeFreeRects, mergesAny}
 use Rattle.model.specs.Sheet.{GuillotineSheet, Insertion, Place, newSheet, bestPlace, splitRects, insertAt, tryInsert}
 use Rattle.trust.proofs.Placing.{Good, bestPlace-good}
 use Rattle.trust.proofs.Merging.{mergeRounds-done}
-use Rattle.fits.specs.declared.Score.{Score}
+use Rattle.choice.specs.declared.Score.{Score}
 use Rattle.free_rects.specs.Bounds.{Small, Inside}
 use Rattle.free_rects.proofs.Remainders.{split-small, swap-small}
-use Rattle.free_rects.proofs.Rounds.{rounds-small}
+use Rattle.merging.proofs.Rounds.{rounds-small}
 use Rattle.best_place.specs.declared.BestFit.the-variants as best
 use Rattle.guillotine.specs.declared.Inserted.the-variants as inserted
 use Rattle.rect_words.specs.SheetWords.{rectsIn, withRects, Shows, mostRects, blockWords}

@@ -18,14 +18,14 @@ use Rattle.model.specs.Split.{bottomRemainder, rightRemainder, bottomWidth, rig
 use Rattle.model.specs.Merge.{Pair, firstPair, mergeRounds, mergeFreeRects, mergesAny}
 use Rattle.trust.proofs.Sizes.{split-length}
 use Rattle.free_rects.specs.declared.FreeRects.{FreeRects}
-use Rattle.free_rects.specs.declared.MergedFree.{MergedFree}
+use Rattle.merging.specs.declared.MergedFree.{MergedFree}
 use Rattle.free_rects.specs.declared.Remainder.{Remainder}
 use Rattle.free_rects.specs.FreeList.{rectsOf, Holds, remainderOf}
 use Rattle.free_rects.specs.Bounds.{Small, Inside}
-use Rattle.free_rects.specs.Merging.{Scannable, MergesTo}
+use Rattle.merging.specs.Merging.{Scannable, MergesTo}
 use Rattle.free_rects.proofs.Remainders.{split-small, swap-small}
-use Rattle.free_rects.proofs.Apart.{swap-apart}
-use Rattle.free_rects.proofs.Rounds.{rounds-stop}
+use Rattle.merging.proofs.Apart.{swap-apart}
+use Rattle.merging.proofs.Rounds.{rounds-stop}
 use Rattle.rect_words.specs.SheetWords.{rectsIn, withRects}
 use Rattle.guillotine.specs.Insertions.{splitBy, Insertable, At, Replaces}
 use Rattle.rect_words.proofs.Words.{length-rects}

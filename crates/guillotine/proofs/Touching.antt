@@ -19,7 +19,7 @@ use Rattle.model.specs.Merge.{Pair, mergeAdjacentRects, firstPair, mergesAny}
 use Rattle.free_rects.specs.declared.Remainder.{Remainder}
 use Rattle.free_rects.specs.declared.Remainder.the-variants.{Nothing, One}
 use Rattle.free_rects.specs.FreeList.{remainderOf}
-use Rattle.free_rects.proofs.Apart.{Apart, first-apart, apart-first, swap-apart}
+use Rattle.merging.proofs.Apart.{Apart, first-apart, apart-first, swap-apart}
 use Rattle.rect_words.specs.SheetWords.{rectAt, rectsIn}
 use Rattle.guillotine.specs.Insertions.{touches, touchesAny, others}
 use Rattle.rect_words.proofs.Words.{length-rects, get-rects}

@@ -29,7 +29,7 @@ fn touches_between(sheet: &[u32], from: usize, to: usize, rect: Rect, kerf_width
     let mut index = from;
     while index < to {
         let other = rect_words::rect_at(sheet, index);
-        if free_rects::merges(other, rect, kerf_width) {
+        if adjacent::merges(other, rect, kerf_width) {
             return true;
         }
         index += 1;
@@ -48,7 +48,7 @@ fn touches_others(sheet: &[u32], kerf_width: u32, index: usize, remainder: Remai
             if touches_between(sheet, 0, index, rect, kerf_width) {
                 return true;
             }
-            let count = rect_words::wide(sheet[0]);
+            let count = sheet[0] as usize;
             touches_between(sheet, index + 1, count, rect, kerf_width)
         }
     }
@@ -62,7 +62,7 @@ fn remainders_merge(bottom: Remainder, right: Remainder, kerf_width: u32) -> boo
         Remainder::Nothing => false,
         Remainder::One(a) => match right {
             Remainder::Nothing => false,
-            Remainder::One(b) => free_rects::merges(a, b, kerf_width),
+            Remainder::One(b) => adjacent::merges(a, b, kerf_width),
         },
     }
 }
@@ -108,7 +108,7 @@ fn insert_merging(
         kerf_width,
         direction,
     );
-    let after = free_rects::merge_free_rects(with, kerf_width, without.count);
+    let after = merging::merge_free_rects(with, kerf_width, without.count);
     let merged = after.free;
     rect_words::store(sheet, merged);
     after.any
@@ -168,7 +168,7 @@ pub fn try_insert(
     };
     let placed = fit.rect;
     let split = heuristic.split;
-    let direction = fits::split_direction(free_rect, placed, split);
+    let direction = choice::split_direction(free_rect, placed, split);
     let merged = insert_at(sheet, kerf_width, index, free_rect, placed, direction);
     Inserted::At {
         index: index,

@@ -23,8 +23,9 @@ use Rattle.model.specs.Project.{Piece, projectOf, stockStart, stockLength, cuts
 use Rattle.model.specs.Refusal.{Check, RecordRule, stockRule, cutRule, recordChecks, settingsChecks, wholeChecks, projectChecks, fileRefusal, totalQuantity}
 use Rattle.model.specs.Expand.{compareStock, stockInstances, cutInstances, expandProject}
 use Rattle.trust.proofs.Checks.{file-passed}
-use Rattle.orders.specs.Rows.{stockWords, cutWords, stockRow, cutRow, rowAt, stockAt, stockOf, sortedOrder}
-use Rattle.orders.proofs.Rows.{length-rows, row-within, row-of, stock-sized, cut-sized, stock-known}
+use Rattle.rows.specs.Rows.{stockWords, cutWords, stockRow, cutRow, rowAt, stockAt, stockOf}
+use Rattle.orders.specs.Order.{sortedOrder}
+use Rattle.rows.proofs.Rows.{length-rows, row-within, row-of, stock-sized, cut-sized, stock-known}
 use Rattle.orders.proofs.Order.{length-sorted, sorted-below, sorted-stock-rows}
 use Rattle.project.specs.declared.Kind.{Kind}
 use Rattle.project.specs.Records.{recordsFrom}

@@ -13,7 +13,7 @@ use Rattle.lists.proofs.Parts.{patch-nil, length-patch, patch-append}
 use Rattle.model.specs.Types.{patternCode, patternOf, flagCode}
 use Rattle.model.specs.Project.{Piece}
 use Rattle.model.specs.Expand.{stockInstances, cutInstances}
-use Rattle.orders.specs.Rows.{stockWords, stockRow, cutRow}
+use Rattle.rows.specs.Rows.{stockWords, stockRow, cutRow}
 use Rattle.project.specs.declared.Kind.{Kind}
 use Rattle.project.specs.Records.{recordAt, recordsFrom}
 use Rattle.instances.specs.Tables.{wordsOf, rowOf, rowsOf, rowBy}

@@ -8,7 +8,7 @@ use Rattle.lists.specs.Base.{concatMap}
 use Rattle.model.specs.Types.{patternCode, patternOf, flagCode}
 use Rattle.model.specs.Project.{Piece}
 use Rattle.model.specs.Expand.{stockInstances, cutInstances}
-use Rattle.orders.specs.Rows.{stockWords, cutWords, stockRow, cutRow, rowAt}
+use Rattle.rows.specs.Rows.{stockWords, cutWords, stockRow, cutRow, rowAt}
 use Rattle.project.specs.declared.Kind.{Kind}
 
 -- the first words of a table are the rows of a list, as many as its count says, and the rest is zero

@@ -13,7 +13,8 @@ ghost use Rattle.model.specs.Types.{patternCode, patternOf, flagCode};
 ghost use Rattle.model.specs.Project.{projectOf, recordLength};
 ghost use Rattle.model.specs.Refusal.{fileRefusal};
 ghost use Rattle.model.specs.Expand.{expandProject};
-ghost use Rattle.orders.specs.Rows.{stockWords, cutWords, stockRow, cutRow, rowAt, sortedOrder};
+ghost use Rattle.rows.specs.Rows.{stockWords, cutWords, stockRow, cutRow, rowAt};
+ghost use Rattle.orders.specs.Order.{sortedOrder};
 ghost use Rattle.project.specs.Records.{pieceOf, recordsFrom};
 ghost use Rattle.instances.specs.Tables.{Holds, wordsOf, rowOf, rowsOf, rowBy};
 
@@ -50,8 +51,8 @@ fn row_words(kind: Kind) -> usize
     ensures { λ r. ⌜ r ≡ wordsOf kind ⌝ }
 {
     match kind {
-        Kind::Stock => orders::STOCK_WORDS,
-        Kind::Cut => orders::CUT_WORDS,
+        Kind::Stock => rows::STOCK_WORDS,
+        Kind::Cut => rows::CUT_WORDS,
     }
 }
 
@@ -148,8 +149,8 @@ fn copy_rows(table: &[u32], order: &[u32], count: usize, words: &mut [u32])
     let mut at: usize = 0;
     let mut k: usize = 0;
     while k < count {
-        copy_row(table, orders::STOCK_WORDS * order[k] as usize, words, at);
-        at += orders::STOCK_WORDS;
+        copy_row(table, rows::STOCK_WORDS * order[k] as usize, words, at);
+        at += rows::STOCK_WORDS;
         k += 1;
     }
 }
@@ -172,7 +173,7 @@ fn sorted_stock(raw: &[u32], count: usize) -> StockTable
     requires { ⌜ (stockWords * count ≤ length (now raw)) × (count ≤ 64) ⌝ }
     ensures { λ r. ⌜ Holds stockWords (rowAt stockWords (now (raw .entry))) (sortedOrder stockWords (now (raw .entry)) count) (r .words) (r .count) ⌝ }
 {
-    let order = orders::sorted_order(raw, orders::STOCK_WORDS, count);
+    let order = orders::sorted_order(raw, rows::STOCK_WORDS, count);
     let mut words = [0u32; 384];
     copy_rows(raw, &order, count, &mut words);
     StockTable { words, count }

@@ -14,3 +14,4 @@ pub mod Maps
 pub mod Counts
 pub mod Arrays
 pub mod Parts
+pub mod Tests

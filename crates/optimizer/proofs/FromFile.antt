@@ -13,8 +13,8 @@ use Rattle.model.specs.Expand.{ProblemInstance, expandProject}
 use Rattle.trust.proofs.Winner.{Admitted}
 use Rattle.trust.proofs.Checks.{admitted}
 use Rattle.trust.proofs.Ranges.{Byte, Ranged, ranged}
-use Rattle.orders.specs.Rows.{stockWords, cutWords, stockRow, cutRow, stockAt, cutAt}
-use Rattle.orders.proofs.Rows.{stock-rows, cut-rows}
+use Rattle.rows.specs.Rows.{stockWords, cutWords, stockRow, cutRow, stockAt, cutAt}
+use Rattle.rows.proofs.Rows.{stock-rows, cut-rows}
 use Rattle.instances.specs.Tables.{Holds}
 use Rattle.candidate.specs.declared.Instance.{Instance}
 use Rattle.candidate.specs.Stands.{instanceIn, Tables}

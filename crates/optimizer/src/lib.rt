@@ -13,7 +13,7 @@ ghost use Rattle.model.specs.Refusal.{fileRefusal};
 ghost use Rattle.model.specs.Expand.{expandProject};
 ghost use Rattle.model.specs.Answer.{prefilter};
 ghost use Rattle.model.specs.Outcome.{leastWorkspace, leastPlan, cleared};
-ghost use Rattle.orders.specs.Rows.{cutWords, cutRow};
+ghost use Rattle.rows.specs.Rows.{cutWords, cutRow};
 ghost use Rattle.instances.specs.Tables.{Holds};
 ghost use Rattle.candidate.specs.Stands.{instanceIn, Tables};
 ghost use Rattle.optimizer.specs.Promise.{numberOf, Searches, Promise};

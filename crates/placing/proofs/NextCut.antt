@@ -14,7 +14,7 @@ use Rattle.model.specs.declared.CutInstance.{CutInstance}
 use Rattle.model.specs.Sheet.{GuillotineSheet, Insertion, newSheet, tryInsert}
 use Rattle.model.specs.Expand.{ProblemInstance}
 use Rattle.trust.proofs.Ranges.{BoardRange, Ranged}
-use Rattle.orders.specs.Rows.{cutWords, stockAt, cutAt}
+use Rattle.rows.specs.Rows.{cutWords, stockAt, cutAt}
 use Rattle.rect_words.specs.SheetWords.{rectsIn}
 use Rattle.rect_words.proofs.Words.{length-rects}
 use Rattle.candidate.specs.declared.Instance.{Instance}

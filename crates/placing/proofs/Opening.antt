@@ -13,7 +13,7 @@ use Rattle.lists.proofs.Every.{all-get}
 use Rattle.lists.proofs.Arrays.{take-next}
 use Rattle.model.specs.declared.StockInstance.{StockInstance}
 use Rattle.model.specs.Sheet.{newSheet}
-use Rattle.orders.specs.Rows.{stockAt}
+use Rattle.rows.specs.Rows.{stockAt}
 use Rattle.rect_words.specs.SheetWords.{rectsIn, withRects}
 use Rattle.candidate.proofs.Lists.{Other}
 use Rattle.placing.specs.Blocks.{blockOf, withBin, behindBlocks}

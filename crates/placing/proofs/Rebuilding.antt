@@ -11,7 +11,7 @@ use Rattle.model.specs.declared.StockInstance.{StockInstance}
 use Rattle.model.specs.Sheet.{newSheet}
 use Rattle.model.specs.Expand.{ProblemInstance}
 use Rattle.trust.proofs.Ranges.{Ranged}
-use Rattle.orders.specs.Rows.{stockAt}
+use Rattle.rows.specs.Rows.{stockAt}
 use Rattle.rect_words.specs.SheetWords.{rectsIn}
 use Rattle.candidate.specs.declared.Instance.{Instance}
 use Rattle.candidate.specs.declared.Candidate.{Candidate as Words}

@@ -18,7 +18,7 @@ use Rattle.lists.proofs.Options.{none-by}
 use Rattle.model.specs.declared.StockInstance.{StockInstance}
 use Rattle.model.specs.Sheet.{GuillotineSheet, Insertion, tryInsert, rebuild}
 use Rattle.model.specs.Expand.{ProblemInstance}
-use Rattle.orders.specs.Rows.{cutWords, stockAt, cutAt}
+use Rattle.rows.specs.Rows.{cutWords, stockAt, cutAt}
 use Rattle.rect_words.specs.SheetWords.{rectsIn, withRects}
 use Rattle.candidate.specs.declared.Instance.{Instance}
 use Rattle.candidate.specs.Entries.{boardOf, cutOf, rowOf, onBoard}

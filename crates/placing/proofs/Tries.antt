@@ -16,7 +16,7 @@ use Rattle.lists.proofs.Every.{all-get, pairs-across}
 use Rattle.lists.proofs.Options.{none-by}
 use Rattle.model.specs.declared.StockInstance.{StockInstance}
 use Rattle.model.specs.Sheet.{GuillotineSheet, Insertion, newSheet, tryInsert}
-use Rattle.orders.specs.Rows.{stockWords, stockAt}
+use Rattle.rows.specs.Rows.{stockWords, stockAt}
 use Rattle.rect_words.specs.SheetWords.{rectsIn, withRects, Shows}
 use Rattle.guillotine.specs.Insertions.{Ready}
 use Rattle.guillotine.proofs.Sheets.{new-ready}

@@ -12,7 +12,7 @@ use Rattle.model.specs.declared.StockInstance.{StockInstance}
 use Rattle.model.specs.Refusal.{mostSide}
 use Rattle.model.specs.Sheet.{GuillotineSheet, Insertion, newSheet, tryInsert}
 use Rattle.trust.proofs.Ranges.{BoardRange}
-use Rattle.orders.specs.Rows.{stockWords, stockAt}
+use Rattle.rows.specs.Rows.{stockWords, stockAt}
 use Rattle.rect_words.specs.SheetWords.{rectsIn, Shows}
 use Rattle.guillotine.specs.Insertions.{Insertable}
 use Rattle.candidate.specs.Moves.{firstFit}

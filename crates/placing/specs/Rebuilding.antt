@@ -8,7 +8,7 @@ use Rattle.lists.specs.Base.{isSome, all}
 use Rattle.lists.proofs.Perm.{All}
 use Rattle.model.specs.Sheet.{newSheet, rebuild}
 use Rattle.model.specs.Expand.{ProblemInstance}
-use Rattle.orders.specs.Rows.{stockWords, stockAt}
+use Rattle.rows.specs.Rows.{stockWords, stockAt}
 use Rattle.rect_words.specs.SheetWords.{rectsIn}
 use Rattle.candidate.specs.Entries.{boardOf, cutOf}
 use Rattle.candidate.specs.Stands.{boardIn, makingIn}

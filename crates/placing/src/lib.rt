@@ -13,7 +13,7 @@ ghost use Prim.Native.Nat.{_+_, _*_, _≤_, _<_};
 ghost use lib.ListN.{length, take};
 ghost use Rattle.lists.proofs.Perm.{All};
 ghost use Rattle.model.specs.Sheet.{newSheet};
-ghost use Rattle.orders.specs.Rows.{cutWords, stockAt, cutAt};
+ghost use Rattle.rows.specs.Rows.{cutWords, stockAt, cutAt};
 ghost use Rattle.candidate.specs.Entries.{boardOf, cutOf, rowOf};
 ghost use Rattle.candidate.specs.Stands.{instanceIn, Tables, Stands};
 ghost use Rattle.placing.specs.Blocks.{withBin, Shown};
@@ -99,7 +99,7 @@ fn first_fit(
     let mut j: usize = 0;
     while j < inst.stock {
         let board = boards[j] as usize;
-        let s = orders::stock_at(stock, board);
+        let s = rows::stock_at(stock, board);
         if try_board(free, inst.kerf_width, s, board, sheets <= j, cut, h) {
             return j;
         }
@@ -120,7 +120,7 @@ pub fn place_cut_first_fit(
     requires { ⌜ Tables (now stock) (now cuts) inst × Next (instanceIn (now stock) (now cuts) inst) (now free) c cut ⌝ }
     ensures { λ r. ⌜ PlacesCut (instanceIn (now (stock .entry)) (now (cuts .entry)) inst) h c cut (now (free .entry)) (now (free .exit)) r ⌝ }
 {
-    let instance = orders::cut_at(cuts, cut as usize);
+    let instance = rows::cut_at(cuts, cut as usize);
     let j = first_fit(free, stock, inst, &c.boards, c.sheets, instance, h);
     candidate::take_place(c, inst, j, cut, h)
 }
@@ -174,7 +174,7 @@ fn open_boards(free: &mut [u32], stock: &[u32], boards: &[u32])
     let mut k: usize = 0;
     while k < boards.len() {
         let board = boards[k] as usize;
-        let s = orders::stock_at(stock, board);
+        let s = rows::stock_at(stock, board);
         open_board(free, s, board);
         k += 1;
     }
@@ -186,8 +186,8 @@ fn insert_again(free: &mut [u32], stock: &[u32], cuts: &[u32], kerf_width: u32, 
     ensures { λ r. ⌜ InsertsOnBoard «kerf_width» (stockAt (now (stock .entry)) (boardOf word) .pattern) (record { cut = cutAt (now (cuts .entry)) (cutOf word); heuristic = rowOf word }) (boardOf word) (now (free .entry)) (now (free .exit)) r ⌝ }
 {
     let board = candidate::board_of(word) as usize;
-    let s = orders::stock_at(stock, board);
-    let cut = orders::cut_at(cuts, candidate::cut_of(word) as usize);
+    let s = rows::stock_at(stock, board);
+    let cut = rows::cut_at(cuts, candidate::cut_of(word) as usize);
     let h = candidate::row_of(word);
     insert_on_board(free, kerf_width, s, board, cut, h)
 }

@@ -37,7 +37,7 @@ fn double(words: &[u32], k: usize) -> u64
     requires { ⌜ k < 2 ^ 40 ⌝ }
     ensures { λ r. ⌜ r ≡ idAt (now (words .entry)) k ⌝ }
 {
-    orders::joined(word(words, k), word(words, k + 1))
+    numbers::joined(word(words, k), word(words, k + 1))
 }
 
 // ---- fields

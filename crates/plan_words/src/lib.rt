@@ -71,7 +71,7 @@ pub fn put_waste(plan: &mut [u32], at: usize, rects: &[u32]) -> usize
     requires { ⌜ Block (now rects) × (at + 4 * getD (now rects) 0 0 ≤ length (now plan)) ⌝ }
     ensures { λ r. ⌜ (now (plan .exit) ≡ patch (now (plan .entry)) at (concatMap rectWords (rectsIn (now (rects .entry))))) × (r ≡ length (rectsIn (now (rects .entry)))) ⌝ }
 {
-    let count = rect_words::wide(rects[0]);
+    let count = rects[0] as usize;
     let n = 4 * count;
     let mut i: usize = 0;
     while i < n {

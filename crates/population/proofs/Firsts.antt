@@ -23,7 +23,8 @@ use Rattle.model.specs.Search.{SearchNumbers, Seed, initialSeeds, candidateFrom
 use Rattle.trust.proofs.Keys.{cutsForKeys-known}
 use Rattle.trust.proofs.Winner.{Admitted}
 use Rattle.trust.proofs.Ranges.{Ranged}
-use Rattle.orders.specs.Rows.{cutWords, cutAt, compareAt, sortedOrder}
+use Rattle.rows.specs.Rows.{cutWords, cutAt}
+use Rattle.orders.specs.Order.{compareAt, sortedOrder}
 use Rattle.candidate.specs.declared.Candidate.{Candidate as Words}
 use Rattle.candidate.specs.declared.Instance.{Instance}
 use Rattle.candidate.specs.Moves.{newWords}

@@ -16,7 +16,7 @@ use Rattle.model.specs.Fit.{cutFitsStock}
 use Rattle.model.specs.Refusal.{firstThatApplies}
 use Rattle.model.specs.Answer.{prefilter}
 use Rattle.trust.proofs.CandidateSize.{stock-area-most, cut-area-most}
-use Rattle.orders.specs.Rows.{rowAt, stockOf, cutOf, stockAt, cutAt}
+use Rattle.rows.specs.Rows.{rowAt, stockOf, cutOf, stockAt, cutAt}
 use Rattle.candidate.specs.declared.Instance.{Instance}
 use Rattle.candidate.specs.Stands.{instanceIn, Tables}
 use Rattle.prefilter.specs.Rows.{fitsAny, rowArea}

@@ -6,7 +6,7 @@ use lib.ListN.{getD}
 use Rattle.lists.specs.Base.{any, range}
 use Rattle.model.specs.declared.CutInstance.{CutInstance}
 use Rattle.model.specs.Fit.{cutFitsStock}
-use Rattle.orders.specs.Rows.{stockAt}
+use Rattle.rows.specs.Rows.{stockAt}
 
 -- the cut fits one of the first boards of a table
 unfoldable pub fitsAny : List ℕ → ℕ → CutInstance → Bool

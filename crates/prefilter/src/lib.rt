@@ -8,7 +8,7 @@ ghost use Prim.Native.Nat.{_*_, _≤_, _<_, _^_};
 ghost use lib.ListN.{length};
 ghost use Rattle.lists.specs.Base.{all, sum, range};
 ghost use Rattle.model.specs.Answer.{prefilter};
-ghost use Rattle.orders.specs.Rows.{stockWords, cutWords, cutAt};
+ghost use Rattle.rows.specs.Rows.{stockWords, cutWords, cutAt};
 ghost use Rattle.refusals.specs.Answers.{refusalOf};
 ghost use Rattle.candidate.specs.Stands.{instanceIn, Tables};
 ghost use Rattle.prefilter.specs.Rows.{fitsAny, rowArea};
@@ -20,7 +20,7 @@ fn fits_any(stock: &[u32], boards: usize, cut: CutInstance) -> bool
 {
     let mut i: usize = 0;
     while i < boards {
-        let board = orders::stock_at(stock, i);
+        let board = rows::stock_at(stock, i);
         if fits::cut_fits_stock(cut, board) {
             return true;
         }
@@ -38,7 +38,7 @@ fn all_fit(stock: &[u32], cuts: &[u32], inst: Instance) -> bool
     let count = inst.cuts;
     let mut i: usize = 0;
     while i < count {
-        let cut = orders::cut_at(cuts, i);
+        let cut = rows::cut_at(cuts, i);
         if !fits_any(stock, boards, cut) {
             return false;
         }
@@ -56,7 +56,7 @@ fn total_area(table: &[u32], stride: usize, count: usize) -> u64
     let mut i: usize = 0;
     while i < count {
         let at = stride * i;
-        total += fits::area(table[at + 3], table[at + 4]);
+        total += numbers::area(table[at + 3], table[at + 4]);
         i += 1;
     }
     total
@@ -69,8 +69,8 @@ pub fn basic_feasibility_prefilter(stock: &[u32], cuts: &[u32], inst: Instance) 
     if !all_fit(stock, cuts, inst) {
         return Checked::Refused(15);
     }
-    let boards = total_area(stock, orders::STOCK_WORDS, inst.stock);
-    let panels = total_area(cuts, orders::CUT_WORDS, inst.cuts);
+    let boards = total_area(stock, rows::STOCK_WORDS, inst.stock);
+    let panels = total_area(cuts, rows::CUT_WORDS, inst.cuts);
     if boards < panels {
         return Checked::Refused(16);
     }

@@ -1,4 +1,3 @@
 -- Laws that belong to no one function.
-pub mod Numbers
 pub mod Records
 pub mod Shape

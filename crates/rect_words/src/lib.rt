@@ -11,12 +11,6 @@ ghost use Rattle.model.specs.Types.{rect, noRect};
 ghost use Rattle.free_rects.specs.FreeList.{rectsOf, Holds, remainderOf};
 ghost use Rattle.rect_words.specs.SheetWords.{rectAt, rectsIn, putRect, putRects, withRects, mostRects, blockWords, Block};
 
-pub fn wide(word: u32) -> usize
-    ensures { λ r. ⌜ r ≡ word ⌝ }
-{
-    word as usize
-}
-
 // ---- rectangles in words
 
 pub fn rect_at(sheet: &[u32], index: usize) -> Rect
@@ -57,7 +51,7 @@ pub fn load(sheet: &[u32]) -> FreeRects
         width: 0,
         length: 0,
     };
-    let count = wide(sheet[0]);
+    let count = sheet[0] as usize;
     let rects = [none; 65];
     let mut free = FreeRects {
         rects: rects,
@@ -117,7 +111,7 @@ fn remove_at(sheet: &mut [u32], index: usize)
     requires { ⌜ Block (now sheet) × (index < getD (now sheet) 0 0) ⌝ }
     ensures { λ _. ⌜ now (sheet .exit) ≡ withRects (swapRemove noRect index (rectsIn (now (sheet .entry)))) (now (sheet .entry)) ⌝ }
 {
-    let last = wide(sheet[0]) - 1;
+    let last = sheet[0] as usize - 1;
     let rect = rect_at(sheet, last);
     sheet[0] = last as u32;
     put_rect(sheet, index, rect);
@@ -127,7 +121,7 @@ fn push_rect(sheet: &mut [u32], rect: Rect)
     requires { ⌜ Block (now sheet) × (getD (now sheet) 0 0 < mostRects) ⌝ }
     ensures { λ _. ⌜ now (sheet .exit) ≡ withRects (rectsIn (now (sheet .entry)) ++ (rect ∷ [])) (now (sheet .entry)) ⌝ }
 {
-    let count = wide(sheet[0]);
+    let count = sheet[0] as usize;
     sheet[0] = (count + 1) as u32;
     put_rect(sheet, count, rect);
 }

@@ -115,7 +115,7 @@ fn id_used(file: &[u8], base: usize, i: usize, id: u64) -> bool
     let mut k = i;
     while k > 0 {
         k -= 1;
-        if id == project::number_8(file, base + project::RECORD_LENGTH * k) {
+        if id == numbers::number_8(file, base + project::RECORD_LENGTH * k) {
             return true;
         }
     }
@@ -167,7 +167,7 @@ fn check_records(kind: Kind, file: &[u8], base: usize, n: usize) -> Checked
         let checked = check_record(kind, file, base, i, count);
         match checked {
             Checked::Passed => {
-                count += project::number_4(
+                count += numbers::number_4(
                     file,
                     base + project::RECORD_LENGTH * i + project::QUANTITY_FIELD,
                 ) as u64;
@@ -202,12 +202,12 @@ fn fixed_entries(file: &[u8]) -> bool
         && eqb (startOf (now (file .entry)) stockEntry) stockStart) ⌝ }
 {
     let settings = both(
-        project::number_4(file, project::SETTINGS_START_AT) == 24,
-        project::number_4(file, project::SETTINGS_LENGTH_AT) == 8,
+        numbers::number_4(file, project::SETTINGS_START_AT) == 24,
+        numbers::number_4(file, project::SETTINGS_LENGTH_AT) == 8,
     );
     both(
         settings,
-        project::number_4(file, project::STOCK_START_AT) == 32,
+        numbers::number_4(file, project::STOCK_START_AT) == 32,
     )
 }
 
@@ -229,9 +229,9 @@ fn well_formed(file: &[u8]) -> bool
     }
     bodies_fill(
         fixed_entries(file),
-        project::number_4(file, project::STOCK_LENGTH_AT),
-        project::number_4(file, project::CUTS_START_AT),
-        project::number_4(file, project::CUTS_LENGTH_AT),
+        numbers::number_4(file, project::STOCK_LENGTH_AT),
+        numbers::number_4(file, project::CUTS_START_AT),
+        numbers::number_4(file, project::CUTS_LENGTH_AT),
         file.len(),
     )
 }
@@ -249,11 +249,11 @@ fn bad_settings(file: &[u8]) -> bool
     ensures { λ r. ⌜ r ≡ badSettings (projectOf (now (file .entry))) ⌝ }
 {
     let codes = either(
-        project::number_1(file, project::LAYOUT_AT) > 1,
-        project::number_1(file, project::EFFORT_AT) > 2,
+        numbers::number_1(file, project::LAYOUT_AT) > 1,
+        numbers::number_1(file, project::EFFORT_AT) > 2,
     );
-    let unit = either(codes, project::number_1(file, project::UNIT_AT) > 2);
-    either(unit, project::number_1(file, project::SPARE_AT) != 0)
+    let unit = either(codes, numbers::number_1(file, project::UNIT_AT) > 2);
+    either(unit, numbers::number_1(file, project::SPARE_AT) != 0)
 }
 
 fn check_settings(file: &[u8]) -> Checked
@@ -263,7 +263,7 @@ fn check_settings(file: &[u8]) -> Checked
     if bad_settings(file) {
         return Checked::Refused(3);
     }
-    if project::number_4(file, project::KERF_AT) > MOST_SIDE {
+    if numbers::number_4(file, project::KERF_AT) > MOST_SIDE {
         return Checked::Refused(4);
     }
     Checked::Passed
@@ -306,7 +306,7 @@ fn check_whole(file: &[u8]) -> Checked
     if project::total_quantity(file, project::STOCK_START, project::stock_records(file)) == 0 {
         return Checked::Refused(13);
     }
-    if project::number_1(file, project::LAYOUT_AT) == 1 {
+    if numbers::number_1(file, project::LAYOUT_AT) == 1 {
         return Checked::Refused(14);
     }
     Checked::Passed

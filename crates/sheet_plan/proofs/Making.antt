@@ -21,7 +21,7 @@ use Rattle.trust.proofs.Placing.{at-place}
 use Rattle.trust.proofs.Sheet.{tryInsert-inserted, all-inserted}
 use Rattle.trust.proofs.Ranges.{BoardRange, PanelRange, Ranged}
 use Rattle.trust.proofs.Bounded.{Bounded, new-bounded, tryInsert-bounded}
-use Rattle.orders.specs.Rows.{stockWords, stockAt}
+use Rattle.rows.specs.Rows.{stockWords, stockAt}
 use Rattle.candidate.specs.declared.Instance.{Instance}
 use Rattle.candidate.specs.Entries.{boardOf, cutOf, onBoard}
 use Rattle.candidate.specs.Stands.{instanceIn, Tables, boardIn, cutIn, insertionIn, makingIn, binIn, noStock, noCut}

@@ -23,7 +23,8 @@ use Rattle.trust.proofs.Ranges.{BoardRange}
 use Rattle.trust.proofs.Bounded.{Bounded}
 use Rattle.rect_words.specs.SheetWords.{rectsIn, Shows}
 use Rattle.guillotine.specs.Insertions.{Ready}
-use Rattle.guide.specs.Words.{Holds, Guided, InCorner, Becomes, nextGuide}
+use Rattle.subtree.specs.Words.{InCorner}
+use Rattle.guide.specs.Words.{Holds, Guided, Becomes, nextGuide}
 use Rattle.candidate.specs.Entries.{cutOf}
 use Rattle.candidate.specs.Stands.{boardIn, makingIn, binIn}
 use Rattle.sheet_plan.specs.declared.Progress.{Progress}

@@ -67,7 +67,7 @@ fn take_piece(
 {
     let placed = fit.rect;
     let split = h.split;
-    let direction = fits::split_direction(free_rect, placed, split);
+    let direction = choice::split_direction(free_rect, placed, split);
     let nodes = guide::next_guide(
         guide,
         p.nodes,
@@ -82,7 +82,7 @@ fn take_piece(
     Progress {
         pieces: p.pieces + 1,
         nodes: nodes,
-        placed: p.placed + fitness::area(placed.width, placed.length),
+        placed: p.placed + numbers::area(placed.width, placed.length),
     }
 }
 
@@ -109,8 +109,8 @@ fn replay_word(
     if candidate::board_of(word) != board {
         return p;
     }
-    let s = orders::stock_at(stock, rect_words::wide(board));
-    let cut = orders::cut_at(cuts, rect_words::wide(candidate::cut_of(word)));
+    let s = rows::stock_at(stock, board as usize);
+    let cut = rows::cut_at(cuts, candidate::cut_of(word) as usize);
     let h = candidate::row_of(word);
     let pattern = s.pattern;
     let inserted = guillotine::try_insert(rects, n.kerf_width, pattern, cut, h);
@@ -153,7 +153,7 @@ fn replay_sheet(
         × (at + 9 * length (binIn (instanceIn (now stock) (now cuts) n) (now insertions) board .placedPieces) ≤ length (now plan)) ⌝ }
     ensures { λ r. ⌜ ReplaysSheet (instanceIn (now (stock .entry)) (now (cuts .entry)) n .kerfWidth) (binIn (instanceIn (now (stock .entry)) (now (cuts .entry)) n) (now (insertions .entry)) board) at (now (plan .entry)) (now (plan .exit)) (now (rects .exit)) (now (guide .exit)) r ⌝ }
 {
-    let s = orders::stock_at(stock, rect_words::wide(board));
+    let s = rows::stock_at(stock, board as usize);
     let mut p = bare_board(rects, guide, s, n.kerf_width);
     let mut i: usize = 0;
     while i < insertions.len() {
@@ -201,7 +201,7 @@ fn finish_sheet(
     let nodes = behind + 4 * waste;
     guide::put_nodes(plan, nodes, guide, p.nodes);
     let saw = guide::saw_length(guide, p.nodes);
-    let area = fitness::area(stock.width, stock.length);
+    let area = numbers::area(stock.width, stock.length);
     let share = plan_words::used(p.placed, area);
     plan_words::put_head(
         plan,
@@ -247,6 +247,6 @@ pub fn write_sheet(
         insertions,
         board,
     );
-    let s = orders::stock_at(stock, rect_words::wide(board));
+    let s = rows::stock_at(stock, board as usize);
     finish_sheet(plan, at, &rects, &guide, s, p)
 }

@@ -15,7 +15,7 @@ fn part_end(corpus: &[u8], at: usize) -> usize
     if left < 4 {
         return corpus.len();
     }
-    let size = project::number_4(corpus, at) as usize;
+    let size = numbers::number_4(corpus, at) as usize;
     if left - 4 < size {
         return corpus.len();
     }

@@ -12,26 +12,26 @@ ways-to-lie-requires c κs = search needs
 next-fit-requires : tie.Need-next-fit-requires
 next-fit-requires c κs = search needs
 
-shared-slice-read-wide : tie.Need-shared-slice-read-wide
-shared-slice-read-wide c = search needs
+shared-slice-read-if1 : tie.Need-shared-slice-read-if1
+shared-slice-read-if1 c = search needs
 
-wide-requires : tie.Need-wide-requires
-wide-requires c κs = search needs
+cast-if1 : tie.Need-cast-if1
+cast-if1 c = search needs
 
 best-fit-from-requires : tie.Need-best-fit-from-requires
 best-fit-from-requires c κs = search needs
 
 returns : tie.Need-returns
 returns c =
-    let a = c .before .before .before .before .before .before .before .args in
-    search-all (now (a .sheet)) (c .before .before .before .before .before .ways-to-lie .result) (a .cut) (a .heuristic) (a .stock-pattern) (c .before .before .before .before .next-fit .result) _ (c .before .before .before .before .before .ways-to-lie .ensures) (c .before .before .before .before .next-fit .ensures)
+    let a = c .before .before .before .before .before .before .args in
+    search-all (now (a .sheet)) (c .before .before .before .before .ways-to-lie .result) (a .cut) (a .heuristic) (a .stock-pattern) (c .before .before .before .next-fit .result) _ (c .before .before .before .before .ways-to-lie .ensures) (c .before .before .before .next-fit .ensures)
     (c .best-fit-from .ensures)
 
 returns-2 : tie.Need-returns-2
 returns-2 c =
-    let a = c .before .before .before .before .before .before .args in
-    search-all (now (a .sheet)) (c .before .before .before .before .ways-to-lie .result) (a .cut) (a .heuristic) (a .stock-pattern) (c .before .before .before .next-fit .result) _ (c .before .before .before .before .ways-to-lie .ensures) (c .before .before .before .next-fit .ensures)
-    (search-none (now (a .sheet)) (c .before .before .before .before .ways-to-lie .result) (a .cut) (a .heuristic) (c .before .before .before .next-fit .result) (omega (arith, c .if1 .left, c .before .wide .ensures)))
+    let a = c .before .before .before .before .before .args in
+    search-all (now (a .sheet)) (c .before .before .before .ways-to-lie .result) (a .cut) (a .heuristic) (a .stock-pattern) (c .before .before .next-fit .result) _ (c .before .before .before .ways-to-lie .ensures) (c .before .before .next-fit .ensures)
+    (search-none (now (a .sheet)) (c .before .before .before .ways-to-lie .result) (a .cut) (a .heuristic) (c .before .before .next-fit .result) (omega (arith, c .if1 .left)))
 
 pub best-fit-spec : {M : Type 1} → statement M
 best-fit-spec =
@@ -39,8 +39,8 @@ best-fit-spec =
     (tie.spec
     ways-to-lie-requires
     next-fit-requires
-    shared-slice-read-wide
-    wide-requires
+    shared-slice-read-if1
+    cast-if1
     best-fit-from-requires
     returns
     returns-2)

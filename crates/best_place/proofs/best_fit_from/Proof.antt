@@ -21,17 +21,17 @@ Inv-loop sheet ways cut heuristic first count best₀ index₀ best index =
 abbrev μ-loop : tie.MeasureT-loop
 μ-loop sheet ways cut heuristic first count best₀ index₀ best index = count - index
 
-shared-slice-read-wide : tie.Need-shared-slice-read-wide Inv-loop μ-loop
-shared-slice-read-wide c = search needs
+shared-slice-read-count : tie.Need-shared-slice-read-count Inv-loop μ-loop
+shared-slice-read-count c = search needs
 
-wide-requires : tie.Need-wide-requires Inv-loop μ-loop
-wide-requires c κs = search needs
+cast-count : tie.Need-cast-count Inv-loop μ-loop
+cast-count c = search needs
 
 loop-holds : tie.Need-loop-holds Inv-loop μ-loop
 loop-holds c = (tt, refl)
 
 rect-at-requires : tie.Need-rect-at-requires Inv-loop μ-loop
-rect-at-requires c κs = omega (arith, c .before .before .wide .ensures, c .before .before .before .before .before .pre .few, c .before .before .before .before .before .pre .room)
+rect-at-requires c κs = omega (arith, c .before .before .before .before .pre .few, c .before .before .before .before .pre .room)
 
 consider-rect-requires : tie.Need-consider-rect-requires Inv-loop μ-loop
 consider-rect-requires c κs = c .before .before .loop .inv .0
@@ -40,21 +40,21 @@ add-next-fit : tie.Need-add-next-fit Inv-loop μ-loop
 add-next-fit c = search needs
 
 next-fit-requires : tie.Need-next-fit-requires Inv-loop μ-loop
-next-fit-requires c κs = (c .before .before .before .before .before .before .before .pre, omega (arith, c .before .before .before .before .wide .ensures, c .before .before .before .before .before .before .before .pre .few))
+next-fit-requires c κs = (c .before .before .before .before .before .before .pre, omega (arith, c .before .before .before .before .before .before .pre .few))
 
 loop-less : tie.Need-loop-less Inv-loop μ-loop
 loop-less c =
-    let a = c .before .before .before .before .before .before .before .before .args in
+    let a = c .before .before .before .before .before .before .before .args in
     let i = c .before .before .before .before .loop .index in
     omega (arith, c .next-fit .ensures, next-from (a .ways) (a .cut .width) (a .cut .length) (i + 1) (drop (i + 1) (rectsIn (now (a .sheet)))))
 
 loop-again : tie.Need-loop-again Inv-loop μ-loop
 loop-again c =
-    let a = c .before .before .before .before .before .before .before .before .args in
+    let a = c .before .before .before .before .before .before .before .args in
     let s = c .before .before .before .before in
     let w = now (a .sheet) in
     let i = s .loop .index in
-    let here : i < getD w 0 0 = omega (arith, c .before .before .before .loop-test .taken, c .before .before .before .before .before .wide .ensures) in
+    let here : i < getD w 0 0 = omega (arith, c .before .before .before .loop-test .taken) in
     let more = rw (c .before .before .rect-at .ensures) at (c .before .consider-rect .ensures) in (
       c .before .consider-rect .ensures .scored,
       search-turn w (a .ways) (a .cut) (a .heuristic) (s .loop .best) (c .before .consider-rect .result) i (c .next-fit .result) here (c .next-fit .ensures) more
@@ -63,10 +63,10 @@ loop-again c =
 
 returns : tie.Need-returns Inv-loop μ-loop
 returns c =
-    let a = c .before .before .before .before .before .args in
+    let a = c .before .before .before .before .args in
     let s = c .before in
     let w = now (a .sheet) in
-    let past : getD w 0 0 ≤ s .loop .index = omega (arith, c .loop-test .left, c .before .before .wide .ensures) in
+    let past : getD w 0 0 ≤ s .loop .index = omega (arith, c .loop-test .left) in
     record {
       place = search-end w (a .ways) (a .cut) (a .heuristic) (s .loop .best) (s .loop .index) past ∙ s .loop .inv .1;
       scored = s .loop .inv .0;
@@ -78,8 +78,8 @@ best-fit-from-spec =
     (tie.spec
     Inv-loop
     μ-loop
-    shared-slice-read-wide
-    wide-requires
+    shared-slice-read-count
+    cast-count
     loop-holds
     rect-at-requires
     consider-rect-requires

@@ -19,11 +19,11 @@ Inv-loop sheet ways width length from count index₀ index =
 abbrev μ-loop : tie.MeasureT-loop
 μ-loop sheet ways width length from count index₀ index = count - index
 
-shared-slice-read-wide : tie.Need-shared-slice-read-wide Inv-loop μ-loop
-shared-slice-read-wide c = search needs
+shared-slice-read-count : tie.Need-shared-slice-read-count Inv-loop μ-loop
+shared-slice-read-count c = search needs
 
-wide-requires : tie.Need-wide-requires Inv-loop μ-loop
-wide-requires c κs = search needs
+cast-count : tie.Need-cast-count Inv-loop μ-loop
+cast-count c = search needs
 
 loop-holds : tie.Need-loop-holds Inv-loop μ-loop
 loop-holds c = (omega arith, refl)
@@ -59,8 +59,8 @@ returns : tie.Need-returns Inv-loop μ-loop
 unfolding rectAt
 returns c =
     let s = c .before .before .before .before .before in
-    let a = s .before .before .before .before .args in
-    let here : s .loop .index < getD (now (a .sheet)) 0 0 = omega (arith, c .before .before .before .before .loop-test .taken, c .before .before .before .before .before .before .wide .ensures) in
+    let a = s .before .before .before .args in
+    let here : s .loop .index < getD (now (a .sheet)) 0 0 = omega (arith, c .before .before .before .before .loop-test .taken) in
     sym (next-hit (now (a .sheet)) (a .ways) (a .width) (a .length) (s .loop .index) here (sym (c .before .lies-any-way .ensures) ∙ c .if1 .taken)) ∙ s .loop .inv .1
 
 add-index : tie.Need-add-index Inv-loop μ-loop
@@ -73,17 +73,17 @@ loop-again : tie.Need-loop-again Inv-loop μ-loop
 unfolding rectAt
 loop-again c =
     let s = c .before .before .before .before .before in
-    let a = s .before .before .before .before .args in
-    let here : s .loop .index < getD (now (a .sheet)) 0 0 = omega (arith, c .before .before .before .before .loop-test .taken, c .before .before .before .before .before .before .wide .ensures) in (
-      omega (arith, s .before .before .before .before .pre .0 .few),
+    let a = s .before .before .before .args in
+    let here : s .loop .index < getD (now (a .sheet)) 0 0 = omega (arith, c .before .before .before .before .loop-test .taken) in (
+      omega (arith, s .before .before .before .pre .0 .few),
       sym (next-miss (now (a .sheet)) (a .ways) (a .width) (a .length) (s .loop .index) here (sym (c .before .lies-any-way .ensures) ∙ c .if1 .left)) ∙ s .loop .inv .1,
     )
 
 returns-2 : tie.Need-returns-2 Inv-loop μ-loop
 returns-2 c =
     let s = c .before in
-    let a = s .before .before .before .before .args in
-    sym (next-end (now (a .sheet)) (a .ways) (a .width) (a .length) (s .loop .index) (omega (arith, c .loop-test .left, c .before .before .wide .ensures))) ∙ s .loop .inv .1
+    let a = s .before .before .before .args in
+    sym (next-end (now (a .sheet)) (a .ways) (a .width) (a .length) (s .loop .index) (omega (arith, c .loop-test .left))) ∙ s .loop .inv .1
 
 pub next-fit-spec : {M : Type 1} → statement M
 next-fit-spec =
@@ -91,8 +91,8 @@ next-fit-spec =
     (tie.spec
     Inv-loop
     μ-loop
-    shared-slice-read-wide
-    wide-requires
+    shared-slice-read-count
+    cast-count
     loop-holds
     mul-at
     add-at

@@ -45,7 +45,7 @@ add-result-2 c =
 
 returns : tie.Need-returns
 unfolding heuristicCode
-returns c = cc
+returns c = simp (c .rotation-code .ensures, c .before .split-code .ensures, c .before .before .choice-code .ensures)
 
 pub heuristic-code-spec : {M : Type 1} → statement M
 heuristic-code-spec =

@@ -15,7 +15,7 @@ rotation-of-requires c κs = search needs
 
 returns : tie.Need-returns
 unfolding heuristicOf
-returns c = cc
+returns c = simp (c .rotation-of .ensures, c .before .split-of .ensures, c .before .before .choice-of .ensures)
 
 pub heuristic-of-spec : {M : Type 1} → statement M
 heuristic-of-spec =

@@ -23,7 +23,7 @@ add-result-2 c = omega (arith, heuristic-most (c .before .args .h), c .heuristic
 
 returns : tie.Need-returns
 unfolding insertionWord
-returns c = cc
+returns c = simp (c .heuristic-code .ensures)
 
 pub insertion-word-spec : {M : Type 1} → statement M
 insertion-word-spec =

@@ -18,7 +18,7 @@ add-after c = search needs
 
 returns : tie.Need-returns
 unfolding withInsertion
-returns c = cc
+returns c = simp (c .insertion-word .ensures)
 
 pub push-insertion-spec : {M : Type 1} → statement M
 push-insertion-spec =

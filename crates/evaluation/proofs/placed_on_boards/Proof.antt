@@ -5,7 +5,7 @@ use mathlib.Core.Path.{_≡_, ap, _∙_}
 use mathlib.Core.List.{List}
 use lib.ListN.{length, getD, take, replicate, length-replicate, getD-replicate}
 use Rattle.model.specs.Types.{cutArea}
-use Rattle.orders.specs.Rows.{cutAt}
+use Rattle.rows.specs.Rows.{cutAt}
 use Rattle.evaluation.specs.OnSheets.{wordArea, InTables}
 use Rattle.evaluation.proofs.OnBoards.{Summed, summed-none, summed-most, summed-more, summed-all}
 use borrow.Author.Needs.{needs}

@@ -6,7 +6,7 @@ use mathlib.Core.List.{List, [], map}
 use lib.ListN.{length, getD, take}
 use lib.Seq.{length-take-le}
 use Rattle.model.specs.Types.{stockArea}
-use Rattle.orders.specs.Rows.{stockAt}
+use Rattle.rows.specs.Rows.{stockAt}
 use Rattle.evaluation.proofs.Sheets.{few-insertions, sheet-known, words-known, words-area, areas-of}
 use borrow.Author.Needs.{needs}
 use Rattle.lists.proofs.Arrays.{filled-more}

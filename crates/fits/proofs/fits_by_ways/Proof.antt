@@ -1,6 +1,6 @@
 -- `fits::fits_by_ways` meets its contract: the preference orders the two ways.
 use borrow.Author.Needs.{needs}
-use Rattle.fits.specs.Orientation.{liesUpright, liesRotated, fitsByWays}
+use Rattle.fits.specs.ByWays.{liesUpright, liesRotated, fitsByWays}
 use Rattle.fits.proofs.fits_by_ways.Statement.{statement}
 use Rattle.fits.proofs.fits_by_ways.Tie as tie
 

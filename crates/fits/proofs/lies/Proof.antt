@@ -1,6 +1,6 @@
 -- `fits::lies` meets its contract: the tests in order; the first that fails decides.
 use borrow.Author.Needs.{needs}
-use Rattle.fits.proofs.Tests.{tests}
+use Rattle.lists.proofs.Tests.{tests}
 use Rattle.fits.proofs.lies.Statement.{statement}
 use Rattle.fits.proofs.lies.Tie as tie
 

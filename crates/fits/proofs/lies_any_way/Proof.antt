@@ -1,7 +1,7 @@
 -- `fits::lies_any_way` meets its contract: upright, or else turned.
 use mathlib.Core.Path.{sym, _∙_}
 use borrow.Author.Needs.{needs}
-use Rattle.fits.specs.Orientation.{liesUpright, liesRotated, liesAnyWay}
+use Rattle.fits.specs.ByWays.{liesUpright, liesRotated, liesAnyWay}
 use Rattle.fits.proofs.lies_any_way.Statement.{statement}
 use Rattle.fits.proofs.lies_any_way.Tie as tie
 

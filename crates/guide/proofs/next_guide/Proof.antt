@@ -1,7 +1,7 @@
 -- No guide after a merge, none where there was none, else the leaf replaced.
 use native.Mathlib.Omega.{arith}
 use borrow.Author.Needs.{needs}
-use Rattle.guide.proofs.Subtrees.{subtree-most}
+use Rattle.splice.proofs.Subtrees.{subtree-most}
 use Rattle.guide.proofs.Guides.{merged-none, none-none, split-becomes}
 use Rattle.guide.proofs.next_guide.Statement.{statement}
 use Rattle.guide.proofs.next_guide.Tie as tie

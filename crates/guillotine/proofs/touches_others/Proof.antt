@@ -5,7 +5,7 @@ use Prim.Native.Nat.{_+_}
 use native.Mathlib.Omega.{arith}
 use denote.Ref.{now}
 use lib.Seq.{take-all}
-use lib.ListN.{take, drop}
+use lib.ListN.{getD, take, drop}
 use borrow.Author.Needs.{needs}
 use Rattle.lists.specs.Base.{any}
 use Rattle.model.specs.declared.Rect.{Rect}
@@ -34,20 +34,20 @@ returns c =
     let hit = sym (c .before .touches-between .ensures) ∙ c .if1 .taken in
     rw (c .before .before .before .remainder .given .1, touches-one (a .kerf-width) (c .before .before .before .remainder .given .0 .0) (a .index) (rectsIn (now (a .sheet))), hit)
 
-shared-slice-read-wide : tie.Need-shared-slice-read-wide
-shared-slice-read-wide c = search needs
+shared-slice-read-count : tie.Need-shared-slice-read-count
+shared-slice-read-count c = search needs
 
-wide-requires : tie.Need-wide-requires
-wide-requires c κs = search needs
+cast-count : tie.Need-cast-count
+cast-count c = search needs
 
 add-touches-between : tie.Need-add-touches-between
 add-touches-between c = search needs
 
 touches-between-requires-2 : tie.Need-touches-between-requires-2
 touches-between-requires-2 c κs =
-    let s = c .before .before .before .before .before .before .before .before in
-    let t = rw (c .before .before .before .before .before .remainder .given .1) at (s .pre .2) in
-    (s .pre .0, omega (arith, c .wide .ensures), t .0)
+    let s = c .before .before .before .before .before .before .before in
+    let t = rw (c .before .before .before .before .remainder .given .1) at (s .pre .2) in
+    (s .pre .0, omega arith, t .0)
 
 returns-2 : tie.Need-returns-2
 unfolding touchesAny any
@@ -55,12 +55,13 @@ returns-2 c = rw (c .enum-told .given .1)
 
 returns-3 : tie.Need-returns-3
 returns-3 c =
-    let a = c .before .before .before .before .before .before .before .before .before .args in
-    let l = rectsIn (now (a .sheet)) in
-    let r = c .before .before .before .before .before .before .remainder .given .0 .0 in
-    let miss = sym (c .before .before .before .before .touches-between .ensures) ∙ c .before .before .before .if1 .left in
-    let all : take (c .before .wide .result) l ≡ l = take-all (c .before .wide .result) l (omega (arith, c .before .wide .ensures, length-rects (now (a .sheet)))) in
-    rw (c .before .before .before .before .before .before .remainder .given .1, touches-one (a .kerf-width) r (a .index) l, miss)
+    let a = c .before .before .before .before .before .before .before .before .args in
+    let w = now (a .sheet) in
+    let l = rectsIn w in
+    let r = c .before .before .before .before .before .remainder .given .0 .0 in
+    let miss = sym (c .before .before .before .touches-between .ensures) ∙ c .before .before .if1 .left in
+    let all : take (getD w 0 0) l ≡ l = take-all (getD w 0 0) l (omega (arith, length-rects w)) in
+    rw (c .before .before .before .before .before .remainder .given .1, touches-one (a .kerf-width) r (a .index) l, miss)
     (c .touches-between2 .ensures ∙ ap (λ (m : List Rect). touches (a .kerf-width) r (drop (a .index + 1) m)) all)
 
 pub touches-others-spec : {M : Type 1} → statement M
@@ -71,8 +72,8 @@ touches-others-spec =
     enum-known-remainder
     touches-between-requires
     returns
-    shared-slice-read-wide
-    wide-requires
+    shared-slice-read-count
+    cast-count
     add-touches-between
     touches-between-requires-2
     returns-2

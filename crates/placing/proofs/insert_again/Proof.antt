@@ -2,7 +2,7 @@
 use mathlib.Core.Path.{sym, ap, _∙_, subst}
 use denote.Ref.{now}
 use Rattle.model.specs.declared.StockInstance.{StockInstance}
-use Rattle.orders.specs.Rows.{stockAt, cutAt}
+use Rattle.rows.specs.Rows.{stockAt, cutAt}
 use Rattle.placing.specs.Fitting.{Fillable}
 use Rattle.placing.proofs.OnBoard.{inserts-read}
 use borrow.Author.Needs.{needs}

@@ -17,17 +17,17 @@ Inv-loop plan₀ at rects count n i₀ plan i = (i ≤ n) × (length plan ≡ le
 abbrev μ-loop : tie.MeasureT-loop
 μ-loop plan₀ at rects count n i₀ plan i = n - i
 
-shared-slice-read-wide : tie.Need-shared-slice-read-wide Inv-loop μ-loop
-shared-slice-read-wide c = search needs
+shared-slice-read-count : tie.Need-shared-slice-read-count Inv-loop μ-loop
+shared-slice-read-count c = search needs
 
-wide-requires : tie.Need-wide-requires Inv-loop μ-loop
-wide-requires c κs = search needs
+cast-count : tie.Need-cast-count Inv-loop μ-loop
+cast-count c = search needs
 
 mul-n : tie.Need-mul-n Inv-loop μ-loop
 mul-n c = search needs
 
 loop-holds : tie.Need-loop-holds Inv-loop μ-loop
-loop-holds c = (omega arith, refl, paste-zero (c .before .before .before .before .args .plan .now) (c .before .before .before .before .args .at) (drop 1 (c .before .before .before .before .args .rects .now)))
+loop-holds c = (omega arith, refl, paste-zero (c .before .args .plan .now) (c .before .args .at) (drop 1 (c .before .args .rects .now)))
 
 add-plan : tie.Need-add-plan Inv-loop μ-loop
 add-plan c = search needs
@@ -55,11 +55,11 @@ loop-less c = search needs
 
 loop-again : tie.Need-loop-again Inv-loop μ-loop
 loop-again c =
-    let s = c .before .before .before .before .before .before .before in
+    let s = c .before .before .before .before in
     let l = c .before .before .loop in (
       omega arith,
       length-set (l .plan) _ _ ∙ l .inv .1,
-      waste-turn (s .args .plan .now) (s .args .rects .now) (l .plan) (s .args .at) (l .i) (l .inv .2) (omega (arith, s .pre .0, c .before .before .before .wide .ensures)) (omega (arith, s .pre .1, c .before .before .before .wide .ensures)),
+      waste-turn (s .args .plan .now) (s .args .rects .now) (l .plan) (s .args .at) (l .i) (l .inv .2) (omega (arith, s .pre .0)) (omega (arith, s .pre .1)),
     )
 
 same-length : tie.Need-same-length Inv-loop μ-loop
@@ -67,12 +67,11 @@ same-length c = search needs
 
 returns : tie.Need-returns Inv-loop μ-loop
 returns c =
-    let s = c .before .before .before .before .before .before in
+    let s = c .before .before .before in
     let l = c .before .loop in
     let w : List ℕ = s .args .rects .now in
-    let count : c .before .before .wide .result ≡ getD w 0 0 = c .before .before .wide .ensures in
     let done : 4 * getD w 0 0 ≡ l .i = omega arith in
-    (waste-end (s .args .plan .now) w (l .plan) (s .args .at) (l .i) (l .inv .2) done (omega (arith, s .pre .0)), count ∙ sym (length-rects w))
+    (waste-end (s .args .plan .now) w (l .plan) (s .args .at) (l .i) (l .inv .2) done (omega (arith, s .pre .0)), sym (length-rects w))
 
 pub put-waste-spec : {M : Type 1} → statement M
 put-waste-spec =
@@ -80,8 +79,8 @@ put-waste-spec =
     (tie.spec
     Inv-loop
     μ-loop
-    shared-slice-read-wide
-    wide-requires
+    shared-slice-read-count
+    cast-count
     mul-n
     loop-holds
     add-plan

@@ -4,7 +4,7 @@ use mathlib.Core.Path.{_≡_, sym, ap, _∙_}
 use mathlib.Core.List.{List, map}
 use borrow.Author.Needs.{needs}
 use Rattle.lists.specs.Base.{all, range}
-use Rattle.orders.specs.Rows.{cutAt}
+use Rattle.rows.specs.Rows.{cutAt}
 use Rattle.prefilter.specs.Rows.{fitsAny}
 use Rattle.prefilter.proofs.Left.{left, left-all, all-hit, all-miss, all-none, not-true, not-false}
 use Rattle.prefilter.proofs.all_fit.Statement.{statement}

@@ -5,7 +5,7 @@ use mathlib.Core.List.{map}
 use borrow.Author.Needs.{needs}
 use Rattle.lists.specs.Base.{any}
 use Rattle.model.specs.Fit.{cutFitsStock}
-use Rattle.orders.specs.Rows.{stockAt}
+use Rattle.rows.specs.Rows.{stockAt}
 use Rattle.prefilter.specs.Rows.{fitsAny}
 use Rattle.prefilter.proofs.Fitting.{fits-start}
 use Rattle.prefilter.proofs.Left.{left, any-hit, any-miss, any-none}

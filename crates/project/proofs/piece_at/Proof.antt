@@ -45,7 +45,8 @@ number-2-requires c κs = search needs
 
 returns : tie.Need-returns
 unfolding pieceAt
-returns c = cc
+returns c =
+    rw (c .number-2 .ensures, c .before .number-12 .ensures, c .before .before .number-1 .ensures, c .before .before .before .number-43 .ensures, c .before .before .before .before .number-42 .ensures, c .before .before .before .before .before .number-4 .ensures, c .before .before .before .before .before .before .number-8 .ensures)
 
 pub piece-at-spec : {M : Type 1} → statement M
 piece-at-spec =

@@ -17,23 +17,23 @@ Inv-loop sheet count free₀ index₀ free index = (index ≤ count) × (length 
 abbrev μ-loop : tie.MeasureT-loop
 μ-loop sheet count free₀ index₀ free index = count - index
 
-shared-slice-read-wide : tie.Need-shared-slice-read-wide Inv-loop μ-loop
-shared-slice-read-wide c = search needs
+shared-slice-read-count : tie.Need-shared-slice-read-count Inv-loop μ-loop
+shared-slice-read-count c = search needs
 
-wide-requires : tie.Need-wide-requires Inv-loop μ-loop
-wide-requires c κs = search needs
+cast-count : tie.Need-cast-count Inv-loop μ-loop
+cast-count c = search needs
 
 loop-holds : tie.Need-loop-holds Inv-loop μ-loop
 loop-holds c = (omega arith, refl, refl, refl)
 
 rect-at-requires : tie.Need-rect-at-requires Inv-loop μ-loop
-rect-at-requires c κs = omega (arith, c .before .before .wide .ensures, c .before .before .before .before .before .pre .few, c .before .before .before .before .before .pre .room)
+rect-at-requires c κs = omega (arith, c .before .before .before .before .pre .few, c .before .before .before .before .pre .room)
 
 mul-rect : tie.Need-mul-rect Inv-loop μ-loop
-mul-rect c = omega (arith, c .before .before .before .wide .ensures, c .before .before .before .before .before .before .pre .few)
+mul-rect c = omega (arith, c .before .before .before .before .before .pre .few)
 
 element-set-from-rect : tie.Need-element-set-from-rect Inv-loop μ-loop
-element-set-from-rect c = omega (arith, c .before .before .before .wide .ensures, c .before .before .before .before .before .before .pre .few)
+element-set-from-rect c = omega (arith, c .before .before .before .before .before .pre .few)
 
 add-index : tie.Need-add-index Inv-loop μ-loop
 add-index c = search needs
@@ -44,10 +44,10 @@ loop-less c = search needs
 loop-again : tie.Need-loop-again Inv-loop μ-loop
 loop-again c =
     let s = c .before .before in
-    let w = now (s .before .before .before .before .args .sheet) in
+    let w = now (s .before .before .before .args .sheet) in
     let i = s .loop .index in
-    let here : i < getD w 0 0 = omega (arith, c .before .before .before .wide .ensures) in
-    let within : i < length (s .loop .free .rects) = omega (arith, s .before .before .before .before .pre .few) in (
+    let here : i < getD w 0 0 = omega arith in
+    let within : i < length (s .loop .free .rects) = omega (arith, s .before .before .before .pre .few) in (
       omega arith,
       length-set (s .loop .free .rects) i _ ∙ s .loop .inv .1,
       s .loop .inv .2,
@@ -57,9 +57,9 @@ loop-again c =
 returns : tie.Need-returns Inv-loop μ-loop
 returns c =
     let s = c .before in
-    let w = now (s .before .before .before .before .args .sheet) in
-    let all : s .loop .index ≡ getD w 0 0 = omega (arith, c .before .before .wide .ensures) in
-    let counts : s .loop .free .count ≡ getD w 0 0 = s .loop .inv .2 ∙ c .before .before .wide .ensures in
+    let w = now (s .before .before .before .args .sheet) in
+    let all : s .loop .index ≡ getD w 0 0 = omega arith in
+    let counts : s .loop .free .count ≡ getD w 0 0 = s .loop .inv .2 in
     record {
       is = rw (counts, ← all) (s .loop .inv .3) ∙ ap (λ (n : ℕ). take n (rectsIn w)) all ∙ take-all (getD w 0 0) (rectsIn w) (omega (arith, length-rects w));
       counts = counts ∙ sym (length-rects w);
@@ -71,8 +71,8 @@ load-spec =
     (tie.spec
     Inv-loop
     μ-loop
-    shared-slice-read-wide
-    wide-requires
+    shared-slice-read-count
+    cast-count
     loop-holds
     rect-at-requires
     mul-rect

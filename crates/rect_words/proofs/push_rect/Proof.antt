@@ -8,11 +8,11 @@ use Rattle.rect_words.proofs.Words.{push-words}
 use Rattle.rect_words.proofs.push_rect.Statement.{statement}
 use Rattle.rect_words.proofs.push_rect.Tie as tie
 
-slice-read-wide : tie.Need-slice-read-wide
-slice-read-wide c = search needs
+slice-read-count : tie.Need-slice-read-count
+slice-read-count c = search needs
 
-wide-requires : tie.Need-wide-requires
-wide-requires c κs = search needs
+cast-count : tie.Need-cast-count
+cast-count c = search needs
 
 add-sheet : tie.Need-add-sheet
 add-sheet c = search needs
@@ -31,17 +31,16 @@ same-length c = c .before .before .put-rect .kept .0 ∙ simp length-set
 
 returns : tie.Need-returns
 returns c =
-    let a = c .before .before .before .before .before .before .before .args in
+    let a = c .before .before .before .before .before .before .args in
     let w = now (a .sheet) in
-    let n = c .before .before .before .before .wide .ensures in
-    c .before .before .put-rect .ensures ∙ rw n (push-words w (a .rect) (omega (arith, c .before .before .before .before .before .before .before .pre .0 .room, c .before .before .before .before .before .before .before .pre .1)))
+    c .before .before .put-rect .ensures ∙ push-words w (a .rect) (omega (arith, c .before .before .before .before .before .before .pre .0 .room, c .before .before .before .before .before .before .pre .1))
 
 pub push-rect-spec : {M : Type 1} → statement M
 push-rect-spec =
     tie.close
     (tie.spec
-    slice-read-wide
-    wide-requires
+    slice-read-count
+    cast-count
     add-sheet
     cast-sheet
     slice-write-sheet

@@ -9,11 +9,11 @@ use Rattle.rect_words.proofs.Words.{remove-words}
 use Rattle.rect_words.proofs.remove_at.Statement.{statement}
 use Rattle.rect_words.proofs.remove_at.Tie as tie
 
-slice-read-wide : tie.Need-slice-read-wide
-slice-read-wide c = search needs
+slice-read-last : tie.Need-slice-read-last
+slice-read-last c = search needs
 
-wide-requires : tie.Need-wide-requires
-wide-requires c κs = search needs
+cast-last : tie.Need-cast-last
+cast-last c = search needs
 
 sub-last : tie.Need-sub-last
 sub-last c = search needs
@@ -28,27 +28,26 @@ slice-write-sheet : tie.Need-slice-write-sheet
 slice-write-sheet c = search needs
 
 put-rect-requires : tie.Need-put-rect-requires
-put-rect-requires c κs = simp length-set (omega (arith, c .before .before .before .before .before .before .pre .0 .room, c .before .before .before .before .before .before .pre .0 .few, c .before .before .before .before .before .before .pre .1))
+put-rect-requires c κs = simp length-set (omega (arith, c .before .before .before .before .before .pre .0 .room, c .before .before .before .before .before .pre .0 .few, c .before .before .before .before .before .pre .1))
 
 same-length : tie.Need-same-length
 same-length c = c .before .before .put-rect .kept .0 ∙ simp length-set
 
 returns : tie.Need-returns
 returns c =
-    let a = c .before .before .before .before .before .before .before .before .before .args in
+    let a = c .before .before .before .before .before .before .before .before .args in
     let w = now (a .sheet) in
-    let n = c .before .before .before .before .before .before .wide .ensures in
-    let m = c .before .before .before .before .before .before .wide .result - 1 in
-    let more : getD w 0 0 ≡ suc m = omega (arith, n, c .before .before .before .before .before .before .before .before .before .pre .1) in
+    let m = getD w 0 0 - 1 in
+    let more : getD w 0 0 ≡ suc m = omega (arith, c .before .before .before .before .before .before .before .before .pre .1) in
     c .before .before .put-rect .ensures
-    ∙ rw (c .before .before .before .before .rect-at .ensures) (remove-words w m (a .index) more (omega (arith, c .before .before .before .before .before .before .before .before .before .pre .1)) (omega (arith, c .before .before .before .before .before .before .before .before .before .pre .0 .room, c .before .before .before .before .before .before .before .before .before .pre .0 .few)))
+    ∙ rw (c .before .before .before .before .rect-at .ensures) (remove-words w m (a .index) more (omega (arith, c .before .before .before .before .before .before .before .before .pre .1)) (omega (arith, c .before .before .before .before .before .before .before .before .pre .0 .room, c .before .before .before .before .before .before .before .before .pre .0 .few)))
 
 pub remove-at-spec : {M : Type 1} → statement M
 remove-at-spec =
     tie.close
     (tie.spec
-    slice-read-wide
-    wide-requires
+    slice-read-last
+    cast-last
     sub-last
     rect-at-requires
     cast-sheet

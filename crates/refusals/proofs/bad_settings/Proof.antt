@@ -27,7 +27,7 @@ either-requires-3 c κs = search needs
 
 returns : tie.Need-returns
 unfolding projectOf
-returns c = cc
+returns c = simp (c .either3 .ensures, c .before .number-14 .ensures, c .before .before .either2 .ensures, c .before .before .before .number-13 .ensures, c .before .before .before .before .either .ensures, c .before .before .before .before .before .number-12 .ensures, c .before .before .before .before .before .before .number-1 .ensures)
 
 pub bad-settings-spec : {M : Type 1} → statement M
 bad-settings-spec =

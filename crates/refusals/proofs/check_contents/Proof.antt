@@ -1,5 +1,5 @@
 -- `refusals::check_contents` meets its contract.
-use Rattle.model.specs.Project.{projectOf}
+use mathlib.Core.Path.{sym}
 use Rattle.project.proofs.Shape.{long}
 use Rattle.refusals.proofs.Whole.{project-rows}
 use borrow.Author.Needs.{needs}
@@ -28,7 +28,7 @@ or-else-requires-3 : tie.Need-or-else-requires-3
 or-else-requires-3 c κs = search needs
 
 returns : tie.Need-returns
-returns c = cc (project-rows (projectOf (c .before .before .before .before .before .before .before .before .args .file .now)))
+returns c = simp (c .or-else3 .ensures, c .before .or-else2 .ensures, c .before .before .or-else .ensures, c .before .before .before .check-whole .ensures, c .before .before .before .before .check-cuts .ensures, c .before .before .before .before .before .check-stock .ensures, c .before .before .before .before .before .before .check-settings .ensures) (sym (project-rows _))
 
 pub check-contents-spec : {M : Type 1} → statement M
 check-contents-spec =

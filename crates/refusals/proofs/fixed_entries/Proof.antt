@@ -19,7 +19,7 @@ both-requires-2 : tie.Need-both-requires-2
 both-requires-2 c κs = search needs
 
 returns : tie.Need-returns
-returns c = cc
+returns c = simp (c .both2 .ensures, c .before .number-43 .ensures, c .before .before .both .ensures, c .before .before .before .number-42 .ensures, c .before .before .before .before .number-4 .ensures)
 
 pub fixed-entries-spec : {M : Type 1} → statement M
 fixed-entries-spec =

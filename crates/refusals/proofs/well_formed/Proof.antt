@@ -25,7 +25,7 @@ bodies-fill-requires c κs = search needs
 
 returns-2 : tie.Need-returns-2
 unfolding wellFormed
-returns-2 c = cc
+returns-2 c = simp (c .bodies-fill .ensures, c .before .number-43 .ensures, c .before .before .number-42 .ensures, c .before .before .before .number-4 .ensures, c .before .before .before .before .fixed-entries .ensures)
 
 pub well-formed-spec : {M : Type 1} → statement M
 well-formed-spec =

@@ -1,12 +1,12 @@
 -- An insertion on another board passes by; one on the board finds its place, since the whole making does.
 use Prim.Native.Nat.{ℕ, _<_}
 use native.Mathlib.Omega.{arith}
-use mathlib.Core.Path.{_≡_, sym, ap, _∙_}
+use mathlib.Core.Path.{_≡_, refl, sym, ap, _∙_}
 use lib.ListN.{getD}
 use borrow.Author.Needs.{needs}
 use Rattle.model.specs.declared.StockInstance.{StockInstance}
 use Rattle.model.specs.Expand.{ProblemInstance}
-use Rattle.orders.specs.Rows.{cutAt}
+use Rattle.rows.specs.Rows.{cutAt}
 use Rattle.candidate.specs.Entries.{boardOf, cutOf}
 use Rattle.candidate.specs.Stands.{instanceIn, boardIn, cutIn}
 use Rattle.candidate.proofs.Instances.{cut-count, cut-in}
@@ -34,15 +34,15 @@ cut-below s =
 on-board : (c : tie.Else1) → boardOf (word (c .before .before .before .before .before .before .before .before .before)) ≡ c .before .before .before .before .before .before .before .before .before .args .board
 on-board c = sym (c .before .board-of .ensures) ∙ c .if1 .left
 
-grain : (c : tie.After-stock-at) → c .stock-at .result .pattern ≡ boardIn (inst (c .before .before .before .before .before .before .before .before .before .before .before)) (c .before .before .before .before .before .before .before .before .before .before .before .args .board) .pattern
+grain : (c : tie.After-stock-at) → c .stock-at .result .pattern ≡ boardIn (inst (c .before .before .before .before .before .before .before .before .before .before)) (c .before .before .before .before .before .before .before .before .before .before .args .board) .pattern
 grain c =
-    let s = c .before .before .before .before .before .before .before .before .before .before .before in
-    ap (λ (b : StockInstance). b .pattern) (row-is (s .args .stock .now) (s .args .cuts .now) (s .args .n) (s .args .insertions .now) (s .args .board) (s .pre .1) _ (c .before .wide .ensures) (c .stock-at .result) (c .stock-at .ensures))
+    let s = c .before .before .before .before .before .before .before .before .before .before in
+    ap (λ (b : StockInstance). b .pattern) (row-is (s .args .stock .now) (s .args .cuts .now) (s .args .n) (s .args .insertions .now) (s .args .board) (s .pre .1) _ refl (c .stock-at .result) (c .stock-at .ensures))
 
-cut-read : (c : tie.After-cut-at) → c .cut-at .result ≡ cutIn (inst (c .before .before .before .before .before .before .before .before .before .before .before .before .before .before)) (cutOf (word (c .before .before .before .before .before .before .before .before .before .before .before .before .before .before)))
+cut-read : (c : tie.After-cut-at) → c .cut-at .result ≡ cutIn (inst (c .before .before .before .before .before .before .before .before .before .before .before .before)) (cutOf (word (c .before .before .before .before .before .before .before .before .before .before .before .before)))
 cut-read c =
-    let s = c .before .before .before .before .before .before .before .before .before .before .before .before .before .before in
-    let number : c .before .wide2 .result ≡ cutOf (word s) = c .before .wide2 .ensures ∙ c .before .before .cut-of .ensures in
+    let s = c .before .before .before .before .before .before .before .before .before .before .before .before in
+    let number : c .before .cut-of .result ≡ cutOf (word s) = c .before .cut-of .ensures in
     c .cut-at .ensures ∙ ap (cutAt (s .args .cuts .now)) number ∙ sym (cut-in (s .args .stock .now) (s .args .cuts .now) (s .args .n) (cutOf (word s)) (cut-below s))
 
 -- ---- the calls
@@ -61,27 +61,24 @@ returns c =
     let s = c .before .before .before .before .before .before .before .before .before in
     passed (inst s) (s .pre .0 .ranged) (s .args .insertions .now) (s .args .board) (s .pre .1) (s .args .i) (s .pre .2) (s .args .rects .now) (s .args .guide .now) (s .args .p) (s .pre .3) (λ e. c .if1 .taken (c .before .board-of .ensures ∙ e)) (s .args .at) (s .args .plan .now)
 
-wide-requires : tie.Need-wide-requires
-wide-requires c κs = search needs
-
 stock-at-requires : tie.Need-stock-at-requires
-stock-at-requires c κs = let s = c .before .before .before .before .before .before .before .before .before .before in row-within (s .args .stock .now) (s .args .cuts .now) (s .args .n) (s .args .insertions .now) (s .args .board) (s .pre .1) _ (c .wide .ensures) (s .pre .0)
+stock-at-requires c κs = let s = c .before .before .before .before .before .before .before .before .before in row-within (s .args .stock .now) (s .args .cuts .now) (s .args .n) (s .args .insertions .now) (s .args .board) (s .pre .1) _ refl (s .pre .0)
 
 cut-of-requires : tie.Need-cut-of-requires
 cut-of-requires c κs = search needs
 
-wide-requires-2 : tie.Need-wide-requires-2
-wide-requires-2 c κs = search needs
+cast-cut-at : tie.Need-cast-cut-at
+cast-cut-at c = search needs
 
 cut-at-requires : tie.Need-cut-at-requires
-cut-at-requires c κs = let s = c .before .before .before .before .before .before .before .before .before .before .before .before .before in omega (arith, c .wide2 .ensures, c .before .cut-of .ensures, s .pre .0 .cutRoom, cut-below s)
+cut-at-requires c κs = let s = c .before .before .before .before .before .before .before .before .before .before .before in omega (arith, c .cut-of .ensures, s .pre .0 .cutRoom, cut-below s)
 
 row-of-requires : tie.Need-row-of-requires
 row-of-requires c κs = search needs
 
 try-insert-requires : tie.Need-try-insert-requires
 unfolding instanceIn
-try-insert-requires c κs = let s = c .before .before .before .before .before .before .before .before .before .before .before .before .before .before .before .before in ready (inst s) (s .pre .0 .ranged) (s .args .insertions .now) (s .args .board) (s .pre .1) (s .args .i) (s .pre .2) (s .args .rects .now) (s .args .guide .now) (s .args .p) (s .pre .3) (on-board (c .before .before .before .before .before .before .before))
+try-insert-requires c κs = let s = c .before .before .before .before .before .before .before .before .before .before .before .before .before .before in ready (inst s) (s .pre .0 .ranged) (s .args .insertions .now) (s .args .board) (s .pre .1) (s .args .i) (s .pre .2) (s .args .rects .now) (s .args .guide .now) (s .args .p) (s .pre .3) (on-board (c .before .before .before .before .before))
 
 enum-told : tie.Need-enum-told
 enum-told c = search needs
@@ -92,8 +89,8 @@ enum-known-inserted c = search needs
 take-piece-requires : tie.Need-take-piece-requires
 unfolding instanceIn
 take-piece-requires c κs =
-    let s = c .before .before .before .before .before .before .before .before .before .before .before .before .before .before .before .before .before .before .before .before .before .before .before .before in
-    may-take (inst s) (s .pre .0 .ranged) (s .args .insertions .now) (s .args .board) (s .pre .1) (s .args .i) (s .pre .2) (s .args .rects .now) (s .args .guide .now) (s .args .p) (s .pre .3) (on-board (c .before .before .before .before .before .before .before .before .before .before .before .before .before .before .before)) _ _ _ (grain (c .before .before .before .before .before .before .before .before .before .before .before .before .before)) (cut-read (c .before .before .before .before .before .before .before .before .before .before)) (c .before .before .before .before .before .before .before .before .before .row-of .ensures) (c .before .before .before .before .before .before .before .try-insert .last .0) (c .before .before .before .before .before .before .before .try-insert .result) (c .before .before .before .before .before .before .before .try-insert .ensures) _ _ _ _ (c .before .before .before .inserted .given .1) (s .args .at) (s .args .plan .now) (s .pre .4)
+    let s = c .before .before .before .before .before .before .before .before .before .before .before .before .before .before .before .before .before .before .before .before .before .before in
+    may-take (inst s) (s .pre .0 .ranged) (s .args .insertions .now) (s .args .board) (s .pre .1) (s .args .i) (s .pre .2) (s .args .rects .now) (s .args .guide .now) (s .args .p) (s .pre .3) (on-board (c .before .before .before .before .before .before .before .before .before .before .before .before .before)) _ _ _ (grain (c .before .before .before .before .before .before .before .before .before .before .before .before)) (cut-read (c .before .before .before .before .before .before .before .before .before .before)) (c .before .before .before .before .before .before .before .before .before .row-of .ensures) (c .before .before .before .before .before .before .before .try-insert .last .0) (c .before .before .before .before .before .before .before .try-insert .result) (c .before .before .before .before .before .before .before .try-insert .ensures) _ _ _ _ (c .before .before .before .inserted .given .1) (s .args .at) (s .args .plan .now) (s .pre .4)
 
 same-length : tie.Need-same-length
 same-length c = search needs
@@ -101,8 +98,8 @@ same-length c = search needs
 returns-2 : tie.Need-returns-2
 unfolding instanceIn
 returns-2 c =
-    let s = c .before .before .before .before .before .before .before .before .before .before .before .before .before .before .before .before .before .before .before .before .before in
-    absurd (never (inst s) (s .pre .0 .ranged) (s .args .insertions .now) (s .args .board) (s .pre .1) (s .args .i) (s .pre .2) (s .args .rects .now) (s .args .guide .now) (s .args .p) (s .pre .3) (on-board (c .before .before .before .before .before .before .before .before .before .before .before .before)) _ _ _ (grain (c .before .before .before .before .before .before .before .before .before .before)) (cut-read (c .before .before .before .before .before .before .before)) (c .before .before .before .before .before .before .row-of .ensures) (c .before .before .before .before .try-insert .last .0) (c .before .before .before .before .try-insert .result) (c .before .before .before .before .try-insert .ensures) (c .enum-told .given .1))
+    let s = c .before .before .before .before .before .before .before .before .before .before .before .before .before .before .before .before .before .before .before in
+    absurd (never (inst s) (s .pre .0 .ranged) (s .args .insertions .now) (s .args .board) (s .pre .1) (s .args .i) (s .pre .2) (s .args .rects .now) (s .args .guide .now) (s .args .p) (s .pre .3) (on-board (c .before .before .before .before .before .before .before .before .before .before)) _ _ _ (grain (c .before .before .before .before .before .before .before .before .before)) (cut-read (c .before .before .before .before .before .before .before)) (c .before .before .before .before .before .before .row-of .ensures) (c .before .before .before .before .try-insert .last .0) (c .before .before .before .before .try-insert .result) (c .before .before .before .before .try-insert .ensures) (c .enum-told .given .1))
 
 same-length-2 : tie.Need-same-length-2
 same-length-2 c = search needs
@@ -116,8 +113,8 @@ same-length-4 c = search needs
 returns-3 : tie.Need-returns-3
 unfolding instanceIn
 returns-3 c =
-    let s = c .before .before .before .before .before .before .before .before .before .before .before .before .before .before .before .before .before .before .before .before .before .before .before .before .before .before .before .before .before in
-    taken (inst s) (s .pre .0 .ranged) (s .args .insertions .now) (s .args .board) (s .pre .1) (s .args .i) (s .pre .2) (s .args .rects .now) (s .args .guide .now) (s .args .p) (s .pre .3) (on-board (c .before .before .before .before .before .before .before .before .before .before .before .before .before .before .before .before .before .before .before .before)) _ _ _ (grain (c .before .before .before .before .before .before .before .before .before .before .before .before .before .before .before .before .before .before)) (cut-read (c .before .before .before .before .before .before .before .before .before .before .before .before .before .before .before)) (c .before .before .before .before .before .before .before .before .before .before .before .before .before .before .row-of .ensures) (c .before .before .before .before .before .before .before .before .before .before .before .before .try-insert .last .0) (c .before .before .before .before .before .before .before .before .before .before .before .before .try-insert .result) (c .before .before .before .before .before .before .before .before .before .before .before .before .try-insert .ensures) _ _ _ _ (c .before .before .before .before .before .before .before .before .inserted .given .1) (s .args .at) (s .args .plan .now) _ _ _ (c .before .before .before .before .before .before .before .before .before .before .before .before .try-insert .kept .0 ∙ s .pre .3 .room) (c .before .before .before .before .take-piece .kept .1 .1 .0 ∙ s .pre .3 .space) (c .before .before .before .before .take-piece .ensures)
+    let s = c .before .before .before .before .before .before .before .before .before .before .before .before .before .before .before .before .before .before .before .before .before .before .before .before .before .before .before in
+    taken (inst s) (s .pre .0 .ranged) (s .args .insertions .now) (s .args .board) (s .pre .1) (s .args .i) (s .pre .2) (s .args .rects .now) (s .args .guide .now) (s .args .p) (s .pre .3) (on-board (c .before .before .before .before .before .before .before .before .before .before .before .before .before .before .before .before .before .before)) _ _ _ (grain (c .before .before .before .before .before .before .before .before .before .before .before .before .before .before .before .before .before)) (cut-read (c .before .before .before .before .before .before .before .before .before .before .before .before .before .before .before)) (c .before .before .before .before .before .before .before .before .before .before .before .before .before .before .row-of .ensures) (c .before .before .before .before .before .before .before .before .before .before .before .before .try-insert .last .0) (c .before .before .before .before .before .before .before .before .before .before .before .before .try-insert .result) (c .before .before .before .before .before .before .before .before .before .before .before .before .try-insert .ensures) _ _ _ _ (c .before .before .before .before .before .before .before .before .inserted .given .1) (s .args .at) (s .args .plan .now) _ _ _ (c .before .before .before .before .before .before .before .before .before .before .before .before .try-insert .kept .0 ∙ s .pre .3 .room) (c .before .before .before .before .take-piece .kept .1 .1 .0 ∙ s .pre .3 .space) (c .before .before .before .before .take-piece .ensures)
 
 pub replay-word-spec : {M : Type 1} → statement M
 replay-word-spec =
@@ -127,10 +124,9 @@ replay-word-spec =
     shared-slice-read-word
     board-of-requires
     returns
-    wide-requires
     stock-at-requires
     cut-of-requires
-    wide-requires-2
+    cast-cut-at
     cut-at-requires
     row-of-requires
     try-insert-requires

@@ -13,8 +13,8 @@ use Rattle.sheet_plan.proofs.write_sheet.Tie as tie
 abbrev inst : tie.Start → ProblemInstance
 inst s = instanceIn (s .args .stock .now) (s .args .cuts .now) (s .args .n)
 
-board-read : (c : tie.After-stock-at) → c .stock-at .result ≡ boardIn (inst (c .before .before .before .before .before .before .before .before .before .before .before .before .before .before)) (c .before .before .before .before .before .before .before .before .before .before .before .before .before .before .args .board)
-board-read c = let s = c .before .before .before .before .before .before .before .before .before .before .before .before .before .before in row-is (s .args .stock .now) (s .args .cuts .now) (s .args .n) (s .args .insertions .now) (s .args .board) (s .pre .1) _ (c .before .wide .ensures) (c .stock-at .result) (c .stock-at .ensures)
+board-read : (c : tie.After-stock-at) → c .stock-at .result ≡ boardIn (inst (c .before .before .before .before .before .before .before .before .before .before .before .before .before)) (c .before .before .before .before .before .before .before .before .before .before .before .before .before .args .board)
+board-read c = let s = c .before .before .before .before .before .before .before .before .before .before .before .before .before in row-is (s .args .stock .now) (s .args .cuts .now) (s .args .n) (s .args .insertions .now) (s .args .board) (s .pre .1) _ refl (c .stock-at .result) (c .stock-at .ensures)
 
 add-replay-sheet : tie.Need-add-replay-sheet
 add-replay-sheet c = search needs
@@ -30,11 +30,8 @@ replay-sheet-requires c κs =
     let s = c .before .before .before .before .before .before .before in
     (s .pre .0, s .pre .1, refl, refl, omega (arith, s .pre .2, sheet-length (binIn (inst s) (s .args .insertions .now) (s .args .board))))
 
-wide-requires : tie.Need-wide-requires
-wide-requires c κs = search needs
-
 stock-at-requires : tie.Need-stock-at-requires
-stock-at-requires c κs = let s = c .before .before .before .before .before .before .before .before .before .before .before .before .before in row-within (s .args .stock .now) (s .args .cuts .now) (s .args .n) (s .args .insertions .now) (s .args .board) (s .pre .1) _ (c .wide .ensures) (s .pre .0)
+stock-at-requires c κs = let s = c .before .before .before .before .before .before .before .before .before .before .before .before in row-within (s .args .stock .now) (s .args .cuts .now) (s .args .n) (s .args .insertions .now) (s .args .board) (s .pre .1) _ refl (s .pre .0)
 
 slice-aggregate-finish-sheet : tie.Need-slice-aggregate-finish-sheet
 slice-aggregate-finish-sheet c = search needs
@@ -44,16 +41,16 @@ slice-aggregate-finish-sheet-2 c = search needs
 
 finish-sheet-requires : tie.Need-finish-sheet-requires
 finish-sheet-requires c κs =
-    let s = c .before .before .before .before .before .before .before .before .before .before .before .before .before .before .before .before .before in
-    finishable (inst s) (s .pre .0 .ranged) (s .args .insertions .now) (s .args .board) (s .pre .1) (s .args .at) _ _ _ (c .before .before .before .before .before .before .before .before .before .replay-sheet .result) _ (board-read (c .before .before .before)) (c .before .before .before .before .before .before .before .before .before .replay-sheet .ensures .state) (omega (arith, s .pre .2, c .before .before .before .before .before .before .before .before .before .replay-sheet .kept .0))
+    let s = c .before .before .before .before .before .before .before .before .before .before .before .before .before .before .before .before in
+    finishable (inst s) (s .pre .0 .ranged) (s .args .insertions .now) (s .args .board) (s .pre .1) (s .args .at) _ _ _ (c .before .before .before .before .before .before .before .before .replay-sheet .result) _ (board-read (c .before .before .before)) (c .before .before .before .before .before .before .before .before .replay-sheet .ensures .state) (omega (arith, s .pre .2, c .before .before .before .before .before .before .before .before .replay-sheet .kept .0))
 
 same-length : tie.Need-same-length
 same-length c = search needs
 
 returns : tie.Need-returns
 returns c =
-    let s = c .before .before .before .before .before .before .before .before .before .before .before .before .before .before .before .before .before .before .before .before in
-    c .before .before .finish-sheet .ensures .finishes (inst s .kerfWidth) (binIn (inst s) (s .args .insertions .now) (s .args .board)) (s .args .plan .now) (bin-board (inst s) (s .args .insertions .now) (s .args .board) (s .pre .1) ∙ sym (board-read (c .before .before .before .before .before .before))) (c .before .before .before .before .before .before .before .before .before .before .before .before .replay-sheet .ensures .state) (sym (c .before .before .before .before .before .before .before .before .before .before .before .before .replay-sheet .kept .0)) (c .before .before .before .before .before .before .before .before .before .before .before .before .replay-sheet .ensures .pieces)
+    let s = c .before .before .before .before .before .before .before .before .before .before .before .before .before .before .before .before .before .before .before in
+    c .before .before .finish-sheet .ensures .finishes (inst s .kerfWidth) (binIn (inst s) (s .args .insertions .now) (s .args .board)) (s .args .plan .now) (bin-board (inst s) (s .args .insertions .now) (s .args .board) (s .pre .1) ∙ sym (board-read (c .before .before .before .before .before .before))) (c .before .before .before .before .before .before .before .before .before .before .before .replay-sheet .ensures .state) (sym (c .before .before .before .before .before .before .before .before .before .before .before .replay-sheet .kept .0)) (c .before .before .before .before .before .before .before .before .before .before .before .replay-sheet .ensures .pieces)
 
 pub write-sheet-spec : {M : Type 1} → statement M
 write-sheet-spec =
@@ -63,7 +60,6 @@ write-sheet-spec =
     slice-aggregate-replay-sheet
     slice-aggregate-replay-sheet-2
     replay-sheet-requires
-    wide-requires
     stock-at-requires
     slice-aggregate-finish-sheet
     slice-aggregate-finish-sheet-2

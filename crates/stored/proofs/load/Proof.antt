@@ -44,7 +44,12 @@ returns : tie.Need-returns
 unfolding unpacked
 returns c =
     let block : List ℕ = c .before .before .before .before .before .before .args .block .now in
-    cc (filled-all (part block 2 64) (length-part block 2 64 (omega (arith, c .before .before .before .before .before .before .pre .0))))
+    simp (
+      c .get-words3 .ensures,
+      c .before .get-words2 .ensures,
+      c .before .before .get-words .ensures,
+      filled-all (part block 2 64) (length-part block 2 64 (omega (arith, c .before .before .before .before .before .before .pre .0))),
+    )
 
 pub load-spec : {M : Type 1} → statement M
 load-spec =

@@ -1,0 +1,3 @@
+pub mod Apart
+pub mod Scan
+pub mod Rounds
