@@ -59,7 +59,7 @@ fn rotation_code(rotation: RotationPreference) -> u32
     }
 }
 
-pub fn heuristic_code(h: BaselineGuillotineHeuristic) -> u32
+fn heuristic_code(h: BaselineGuillotineHeuristic) -> u32
     ensures { λ r. ⌜ r ≡ heuristicCode h ⌝ }
 {
     let choice = h.rect_choice;
@@ -101,7 +101,7 @@ fn rotation_of(code: u32) -> RotationPreference
     RotationPreference::PreferRotated
 }
 
-pub fn heuristic_of(code: u32) -> BaselineGuillotineHeuristic
+fn heuristic_of(code: u32) -> BaselineGuillotineHeuristic
     ensures { λ r. ⌜ r ≡ heuristicOf code ⌝ }
 {
     BaselineGuillotineHeuristic {
@@ -111,7 +111,7 @@ pub fn heuristic_of(code: u32) -> BaselineGuillotineHeuristic
     }
 }
 
-pub fn insertion_word(board: u32, cut: u32, h: BaselineGuillotineHeuristic) -> u32
+fn insertion_word(board: u32, cut: u32, h: BaselineGuillotineHeuristic) -> u32
     requires { ⌜ (board < 64) × (cut < 64) ⌝ }
     ensures { λ r. ⌜ r ≡ insertionWord board cut h ⌝ }
 {

@@ -129,7 +129,7 @@ pub fn contains_key(keys: &[u32], key: u32) -> bool
 }
 
 // Whether a key is there twice: each is looked for in the part behind it.
-pub fn has_duplicate_placed_cut_keys(keys: &[u32]) -> bool
+fn has_duplicate_placed_cut_keys(keys: &[u32]) -> bool
     ensures { λ r. ⌜ r ≡ repeats (now (keys .entry)) ⌝ }
 {
     let mut i: usize = 0;

@@ -8,7 +8,7 @@ ghost use Rattle.lists.specs.Base.{sum};
 ghost use Rattle.model.specs.Fitness.{weight, positiveZero};
 ghost use Rattle.fitness.specs.Areas.{shareOf, fitnessOf, Inside};
 
-pub fn area_as_fitness_weight(area: u64) -> f64
+fn area_as_fitness_weight(area: u64) -> f64
     ensures { λ r. ⌜ r ≡ weight area ⌝ }
 {
     std::num::nearest_u64_to_f64(area)

@@ -17,7 +17,7 @@ pub struct FreeRects {
     pub count: usize,
 }
 
-pub fn push(free: FreeRects, rect: Rect) -> FreeRects
+fn push(free: FreeRects, rect: Rect) -> FreeRects
     requires { ⌜ free .count < 65 ⌝ }
     ensures { λ r. ⌜ Holds r (rectsOf free ++ (rect ∷ [])) ⌝ }
 {
@@ -130,7 +130,7 @@ pub fn right_remainder(
     }
 }
 
-pub fn push_remainder(free: FreeRects, remainder: Remainder) -> FreeRects
+fn push_remainder(free: FreeRects, remainder: Remainder) -> FreeRects
     requires { ⌜ free .count < 65 ⌝ }
     ensures { λ r. ⌜ Holds r (rectsOf free ++ remainderOf remainder) ⌝ }
 {

@@ -6,7 +6,7 @@ ghost use Rattle.generator.specs.Shuffle.{shuffled};
 
 // a * b, modulo 2^64. Each number is cut into halves of 32 bits, so that each product of two
 // halves fits 64 bits; the product of the upper halves falls out.
-pub fn wrapping_mul_u64(a: u64, b: u64) -> u64
+fn wrapping_mul_u64(a: u64, b: u64) -> u64
     ensures { λ r. ⌜ r ≡ (a * b) % 2 ^ 64 ⌝ }
 {
     let a0 = a % 0x1_0000_0000;
@@ -34,7 +34,7 @@ pub fn value_of(state: u64) -> u64
 }
 
 // A value brought below a bound, as a place in a list.
-pub fn below(value: u64, upper: usize) -> usize
+fn below(value: u64, upper: usize) -> usize
     requires { ⌜ 0 < upper ⌝ }
     ensures { λ r. ⌜ r ≡ value % upper ⌝ }
 {
@@ -76,7 +76,7 @@ pub struct Drawn {
 }
 
 // A draw by value: a generator is made, lent to `next_index`, and read again.
-pub fn draw(state: u64, upper: usize) -> Drawn
+fn draw(state: u64, upper: usize) -> Drawn
     requires { ⌜ 0 < upper ⌝ }
     ensures { λ r. ⌜ (r .index ≡ indexOf (nextState state) upper) × (r .state ≡ nextState state) ⌝ }
 {

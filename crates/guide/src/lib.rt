@@ -26,7 +26,7 @@ pub fn new_guide(words: &mut [u32], board: Rect) -> usize
 }
 
 // The first such leaf's place becomes the subtree's root; where there is no such leaf, there is no guide.
-pub fn replace_free_leaf(words: &mut [u32], count: usize, target: Rect, subtree: Subtree) -> usize
+fn replace_free_leaf(words: &mut [u32], count: usize, target: Rect, subtree: Subtree) -> usize
     requires { ⌜ (0 < count) × (8 * count + length (subtreeWords subtree) ≤ length (now words) + 8) × Guided (now words) count ⌝ }
     ensures { λ r. ⌜ Replaces (now (words .entry)) (now (words .exit)) count r target subtree ⌝ }
 {

@@ -27,7 +27,7 @@ fn first_right(left: usize, fresh: usize) -> usize
     if next < fresh { fresh } else { next }
 }
 
-pub fn find_pair(free: FreeRects, kerf_width: u32, fresh: usize) -> FoundPair
+fn find_pair(free: FreeRects, kerf_width: u32, fresh: usize) -> FoundPair
     requires { ⌜ Scannable «kerf_width» free fresh ⌝ }
     ensures { λ r. ⌜ pairOf r ≡ firstPair «kerf_width» (rectsOf free) ⌝ }
 {

@@ -6,7 +6,7 @@ ghost use Rattle.model.specs.Types.{patternCode};
 ghost use Rattle.model.specs.Fit.{samePattern, patternMatches, rotatePattern, turningMatters};
 ghost use Rattle.patterns.specs.Orientation.{waysToLie};
 
-pub fn pattern_code(pattern: PatternDirection) -> u32
+fn pattern_code(pattern: PatternDirection) -> u32
     ensures { λ r. ⌜ r ≡ patternCode pattern ⌝ }
 {
     match pattern {
@@ -22,7 +22,7 @@ fn same_pattern(a: PatternDirection, b: PatternDirection) -> bool
     pattern_code(a) == pattern_code(b)
 }
 
-pub fn pattern_matches(cut_pattern: PatternDirection, stock_pattern: PatternDirection) -> bool
+fn pattern_matches(cut_pattern: PatternDirection, stock_pattern: PatternDirection) -> bool
     ensures { λ r. ⌜ r ≡ patternMatches «cut_pattern» «stock_pattern» ⌝ }
 {
     if same_pattern(cut_pattern, PatternDirection::None) {

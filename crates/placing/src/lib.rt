@@ -108,7 +108,7 @@ fn first_fit(
     j
 }
 
-pub fn place_cut_first_fit(
+fn place_cut_first_fit(
     free: &mut [u32],
     stock: &[u32],
     cuts: &[u32],

@@ -30,7 +30,7 @@ pub struct CandidateScore {
 }
 
 // partial_cmp, with Equal where there is none.
-pub fn compare_fitness(left: f64, right: f64) -> Ordering
+fn compare_fitness(left: f64, right: f64) -> Ordering
     ensures { λ r. ⌜ orderingOf r ≡ compareFloat left right ⌝ }
 {
     if left < right {
@@ -62,7 +62,7 @@ fn compare_waste(left: CandidateScore, right: CandidateScore) -> Ordering
 }
 
 // Fewer sheets, less waste area, higher fitness: the better score is the greater one.
-pub fn compare_candidate_score(left: CandidateScore, right: CandidateScore) -> Ordering
+fn compare_candidate_score(left: CandidateScore, right: CandidateScore) -> Ordering
     ensures { λ r. ⌜ orderingOf r ≡ compareScore (scoreOf left) (scoreOf right) ⌝ }
 {
     let l = left.used_stock_count;
