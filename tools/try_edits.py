@@ -101,7 +101,7 @@ def check(crate, deps, edits):
     words += ["-L", f"dependency={ROOT}/target/rlib", "-L", f"dependency={OWN}/rlib"]
     words += ["--antt-project", f"{KIT}/logic/antt-project.json", "--logic-built", f"{OWN}/logic-built"]
     done = subprocess.run(words, capture_output=True, text=True)
-    log = (done.stdout + done.stderr).replace(room + "/", "")
+    log = (done.stdout + done.stderr).replace(room + "/", "").replace("\n  ", " ")  # a long error goes on in lines set in
     shutil.rmtree(room)
     return done.returncode, log
 

@@ -9,10 +9,6 @@ use Rattle.choice.specs.declared.Waste.{Waste}
 abbrev pub numbersOf : Score → List ℕ
 numbersOf s = s .first ∷ s .second ∷ s .third ∷ s .y ∷ s .x ∷ []
 
--- the last three of them
-abbrev pub laterNumbers : Score → List ℕ
-laterNumbers s = s .third ∷ s .y ∷ s .x ∷ []
-
 -- the three measures of which the score is made
 unfoldable pub wasteOf : Rect → Rect → Waste
 wasteOf free placed = record { area = areaWaste free placed; short = shortSide free placed; long = longSide free placed }

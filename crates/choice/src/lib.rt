@@ -10,7 +10,7 @@ ghost use Rattle.lists.specs.Base.{isLess, lexicographic};
 ghost use Rattle.model.specs.Choice.{freeRectChoiceScore};
 ghost use Rattle.model.specs.Split.{splitDirection};
 ghost use Rattle.model.specs.declared.GuillotineSplitHeuristic.{GuillotineSplitHeuristic};
-ghost use Rattle.choice.specs.Numbers.{numbersOf, laterNumbers, wasteOf};
+ghost use Rattle.choice.specs.Numbers.{numbersOf, wasteOf};
 
 // ---- the choice of a rectangle
 
@@ -100,41 +100,22 @@ pub fn free_rect_choice_score(free_rect: Rect, placed: Rect, choice: GuillotineR
     }
 }
 
-// The order of the scores that agree in their first two numbers.
-fn later_less(a: Score, b: Score) -> bool
-    ensures { λ r. ⌜ r ≡ isLess (lexicographic (laterNumbers a) (laterNumbers b)) ⌝ }
-{
-    if a.third < b.third {
-        return true;
-    }
-    if b.third < a.third {
-        return false;
-    }
-    if a.y < b.y {
-        return true;
-    }
-    if b.y < a.y {
-        return false;
-    }
-    a.x < b.x
-}
-
 pub fn score_less(a: Score, b: Score) -> bool
     ensures { λ r. ⌜ r ≡ isLess (lexicographic (numbersOf a) (numbersOf b)) ⌝ }
 {
-    if a.first < b.first {
-        return true;
+    if a.first != b.first {
+        return a.first < b.first;
     }
-    if b.first < a.first {
-        return false;
+    if a.second != b.second {
+        return a.second < b.second;
     }
-    if a.second < b.second {
-        return true;
+    if a.third != b.third {
+        return a.third < b.third;
     }
-    if b.second < a.second {
-        return false;
+    if a.y != b.y {
+        return a.y < b.y;
     }
-    later_less(a, b)
+    a.x < b.x
 }
 
 // ---- the direction of a split
