@@ -3,20 +3,23 @@
 
     tools/gate_edits.py [CRATE...]      from the repository's root
 
-A function has a choice if its text, or that of a private function it reaches in its crate, has a branch or a shift; a loop's bound alone is none.
+A function has a choice if its text, or that of a private function it reaches in its crate, has a branch, a comparison, a remainder or a shift; a loop's
+bound alone is none. Which operand comes first, or which byte, is a choice too, and no pattern finds it: read the functions listed as having none.
 An edit is a wrong answer of it if it changes that text. A private function's wrong answers are those of the public ones above it."""
 import os, re, sys
 from try_edits import crates, parse, touched
 
-CHOICE = re.compile(r"\b(if|match)\b|>>|<<")
+CHOICE = re.compile(r"\b(if|match)\b|>>|<<| (?:<|>|<=|>=|==|!=|%) ")
+# Comments, contracts and loops' bounds.
+ASIDE = re.compile(r"//.*|^ *while .*|^ *(?:requires|ensures) .*|^ +×.*", re.M)
 HEAD = re.compile(r"^(?:    )?(pub )?(?:extern \"C\" )?fn (\w+)", re.M)
 
 
 def functions(crate):
-    """Name to (public, text) of each function of a crate, without comments."""
+    """Name to (public, text) of each function of a crate: its code alone."""
     found = {}
     for file in sorted(os.listdir(f"crates/{crate}/src")):
-        text = re.sub(r"//.*", "", open(f"crates/{crate}/src/{file}").read())
+        text = ASIDE.sub("", open(f"crates/{crate}/src/{file}").read())
         heads = list(HEAD.finditer(text))
         for head, after in zip(heads, heads[1:] + [None]):
             found[head.group(2)] = (bool(head.group(1)), text[head.end():after.start() if after else len(text)])
