@@ -60,12 +60,8 @@ fn store_six(words: &mut [u32], at: usize, u: u32, v: u32, w: u32, x: u32, y: u3
     requires { ⌜ at + 6 ≤ length (now words) ⌝ }
     ensures { λ _. ⌜ now (words .exit) ≡ patch (now (words .entry)) at (u ∷ v ∷ w ∷ x ∷ y ∷ z ∷ []) ⌝ }
 {
-    words[at] = u;
-    words[at + 1] = v;
-    words[at + 2] = w;
-    words[at + 3] = x;
-    words[at + 4] = y;
-    words[at + 5] = z;
+    copying::put_four(words, at, u, v, w, x);
+    copying::put_two(words, at + 4, y, z)
 }
 
 // An instance of a record.
@@ -128,16 +124,7 @@ fn copy_row(table: &[u32], from: usize, words: &mut [u32], at: usize)
     requires { ⌜ (from + stockWords ≤ length (now table)) × (at + stockWords ≤ length (now words)) ⌝ }
     ensures { λ _. ⌜ now (words .exit) ≡ patch (now (words .entry)) at (take stockWords (drop from (now (table .entry)))) ⌝ }
 {
-    store_six(
-        words,
-        at,
-        table[from],
-        table[from + 1],
-        table[from + 2],
-        table[from + 3],
-        table[from + 4],
-        table[from + 5],
-    );
+    copying::put_words(words, at, &table[from..], rows::STOCK_WORDS)
 }
 
 // The stock rows that the first `count` numbers of `order` number, in that order.

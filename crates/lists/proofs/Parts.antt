@@ -117,47 +117,15 @@ module _ {A : Type 0} where
 
 -- ---- stores side by side
 
--- two, four and six stores
+-- two stores
 pub two-stores : (l : List ℕ) (p a b : ℕ) → p + 2 ≤ length l → set (set l p a) (p + 1) b ≡ patch l p (a ∷ b ∷ [])
 two-stores l p a b h = rw (add-one p) (sets-eq (a ∷ b ∷ []) l p h ∙ append-assoc (take p l) (a ∷ b ∷ []) (drop (p + 2) l))
-
-pub six-stores : (l : List ℕ) (at u v w x y z : ℕ) → at + 6 ≤ length l
-    → set (set (set (set (set (set l at u) (at + 1) v) (at + 2) w) (at + 3) x) (at + 4) y) (at + 5) z ≡ patch l at (u ∷ v ∷ w ∷ x ∷ y ∷ z ∷ [])
-six-stores l at u v w x y z h =
-    let row : List ℕ = u ∷ v ∷ w ∷ x ∷ y ∷ z ∷ [] in
-    let e₁ : at + 1 ≡ suc at = omega arith in
-    let e₂ : at + 2 ≡ suc (suc at) = omega arith in
-    let e₃ : at + 3 ≡ suc (suc (suc at)) = omega arith in
-    let e₄ : at + 4 ≡ suc (suc (suc (suc at))) = omega arith in
-    let e₅ : at + 5 ≡ suc (suc (suc (suc (suc at)))) = omega arith in
-    (λ i. set (set (set (set (set (set l at u) (e₁ i) v) (e₂ i) w) (e₃ i) x) (e₄ i) y) (e₅ i) z)
-    ∙ sets-eq row l at h
-    ∙ append-assoc (take at l) row (drop (at + 6) l)
 
 -- a store behind a patch
 pub store-behind : (l : List ℕ) (at v : ℕ) (row : List ℕ) → at + length row < length l → set (patch l at row) (at + length row) v ≡ patch l at (row ++ (v ∷ []))
 store-behind l at v row h =
     set-patch (patch l at row) (at + length row) v (omega (arith, length-patch l at row (omega arith)))
     ∙ patch-append l at row (v ∷ []) (at + length row) refl (omega arith)
-
--- six words read one by one
-pub six-words : (l : List ℕ) (at : ℕ) → at + 6 ≤ length l
-    → getD l at 0 ∷ getD l (at + 1) 0 ∷ getD l (at + 2) 0 ∷ getD l (at + 3) 0 ∷ getD l (at + 4) 0 ∷ getD l (at + 5) 0 ∷ [] ≡ take 6 (drop at l)
-six-words l at h =
-    sym
-    (first ∙ ap (λ (r : List ℕ). getD l at 0 ∷ r)
-    (word 1 4 (omega arith) ∙ ap (λ (r : List ℕ). getD l (at + 1) 0 ∷ r)
-    (word 2 3 (omega arith) ∙ ap (λ (r : List ℕ). getD l (at + 2) 0 ∷ r)
-    (word 3 2 (omega arith) ∙ ap (λ (r : List ℕ). getD l (at + 3) 0 ∷ r)
-    (word 4 1 (omega arith) ∙ ap (λ (r : List ℕ). getD l (at + 4) 0 ∷ r) (word 5 0 (omega arith)))))))
-  where
-    first : take 6 (drop at l) ≡ getD l at 0 ∷ take 5 (drop (at + 1) l)
-    first = let e : suc at ≡ at + 1 = omega arith in ap (take 6) (drop-cons l at 0 (omega arith)) ∙ ap (λ (n : ℕ). getD l at 0 ∷ take 5 (drop n l)) e
-
-    word : (k n : ℕ) → at + k < length l → take (suc n) (drop (at + k) l) ≡ getD l (at + k) 0 ∷ take n (drop (at + suc k) l)
-    word k n b =
-        let e : suc (at + k) ≡ at + suc k = omega arith in
-        ap (take (suc n)) (drop-cons l (at + k) 0 b) ∙ ap (λ (m : ℕ). getD l (at + k) 0 ∷ take n (drop m l)) e
 
 -- ---- a part moved up
 

@@ -16,11 +16,7 @@ fn get_words(block: &[u32], at: usize, n: usize) -> [u32; 64]
     ensures { λ r. ⌜ r ≡ filled (part (now (block .entry)) at n) ⌝ }
 {
     let mut words = [0u32; 64];
-    let mut i: usize = 0;
-    while i < n {
-        words[i] = block[at + i];
-        i += 1;
-    }
+    copying::put_words(&mut words, 0, &block[at..], n);
     words
 }
 

@@ -16,7 +16,9 @@ abbrev μ-loop : tie.MeasureT-loop
 μ-loop table order count words₀ at₀ k₀ words at k = count - k
 
 loop-holds : tie.Need-loop-holds Inv-loop μ-loop
-loop-holds c = (search needs, writing-start (rowBy (c .before .before .before .args .table .now) (c .before .before .before .args .order .now)) (c .before .before .before .args .count) (c .before .before .before .args .words .now) 0 (copies-room (c .before .before .before .args .table .now) (c .before .before .before .args .order .now) (c .before .before .before .args .count) (c .before .before .before .args .words .now) (c .before .before .before .pre .1)))
+loop-holds c =
+    let s = c .before .before .before in
+    (search needs, writing-start (rowBy (s .args .table .now) (s .args .order .now)) (s .args .count) (s .args .words .now) 0 (copies-room (s .args .table .now) (s .args .order .now) (s .args .count) (s .args .words .now) (s .pre .1)))
 
 mul-copy-row : tie.Need-mul-copy-row Inv-loop μ-loop
 mul-copy-row c = search needs
@@ -31,12 +33,22 @@ mul-copy-row-2 : tie.Need-mul-copy-row-2 Inv-loop μ-loop
 mul-copy-row-2 c = record { fits = omega (arith, c .shared-slice-known3 .given (c .before .before .loop .k)) }
 
 copy-row-requires : tie.Need-copy-row-requires Inv-loop μ-loop
-copy-row-requires c κs = (c .before .before .before .before .before .before .before .pre .2 (c .before .before .before .loop .k) (c .before .before .loop-test .taken), omega (arith, writing-room (rowBy (c .before .before .before .before .before .before .before .args .table .now) (c .before .before .before .before .before .before .before .args .order .now)) (c .before .before .before .before .before .before .before .args .count) (c .before .before .before .before .before .before .before .args .words .now) 0 (copies-room (c .before .before .before .before .before .before .before .args .table .now) (c .before .before .before .before .before .before .before .args .order .now) (c .before .before .before .before .before .before .before .args .count) (c .before .before .before .before .before .before .before .args .words .now) (c .before .before .before .before .before .before .before .pre .1)) (c .before .before .before .loop .words) (c .before .before .before .loop .at) (c .before .before .before .loop .k) (c .before .before .before .loop .inv .1) (c .before .before .loop-test .taken), length-by (c .before .before .before .before .before .before .before .args .table .now) (c .before .before .before .before .before .before .before .args .order .now) (c .before .before .before .loop .k) (c .before .before .before .before .before .before .before .pre .2 (c .before .before .before .loop .k) (c .before .before .loop-test .taken))))
+copy-row-requires c κs =
+    let c2 = c .before .before in
+    let c3 = c2 .before in
+    let c7 = c3 .before .before .before .before in
+    let s = c7 in
+    let l = c3 .loop in
+    let loop-test = c2 .loop-test in
+    (s .pre .2 (l .k) (loop-test .taken), omega (arith, writing-room (rowBy (s .args .table .now) (s .args .order .now)) (s .args .count) (s .args .words .now) 0 (copies-room (s .args .table .now) (s .args .order .now) (s .args .count) (s .args .words .now) (s .pre .1)) (l .words) (l .at) (l .k) (l .inv .1) (loop-test .taken), length-by (s .args .table .now) (s .args .order .now) (l .k) (s .pre .2 (l .k) (loop-test .taken))))
 
 add-at : tie.Need-add-at Inv-loop μ-loop
 add-at c =
-    let room : c .before .before .before .before .before .before .loop .at + 6 ≤ length (c .before .before .before .before .before .before .loop .words) =
-    omega (arith, writing-room (rowBy (c .before .before .before .before .before .before .before .before .before .before .args .table .now) (c .before .before .before .before .before .before .before .before .before .before .args .order .now)) (c .before .before .before .before .before .before .before .before .before .before .args .count) (c .before .before .before .before .before .before .before .before .before .before .args .words .now) 0 (copies-room (c .before .before .before .before .before .before .before .before .before .before .args .table .now) (c .before .before .before .before .before .before .before .before .before .before .args .order .now) (c .before .before .before .before .before .before .before .before .before .before .args .count) (c .before .before .before .before .before .before .before .before .before .before .args .words .now) (c .before .before .before .before .before .before .before .before .before .before .pre .1)) (c .before .before .before .before .before .before .loop .words) (c .before .before .before .before .before .before .loop .at) (c .before .before .before .before .before .before .loop .k) (c .before .before .before .before .before .before .loop .inv .1) (c .before .before .before .before .before .loop-test .taken), length-by (c .before .before .before .before .before .before .before .before .before .before .args .table .now) (c .before .before .before .before .before .before .before .before .before .before .args .order .now) (c .before .before .before .before .before .before .loop .k) (c .before .before .before .before .before .before .before .before .before .before .pre .2 (c .before .before .before .before .before .before .loop .k) (c .before .before .before .before .before .loop-test .taken)))
+    let s = c .before .before .before .before .before .before .before .before .before .before in
+    let l = c .before .before .before .before .before .before .loop in
+    let loop-test = c .before .before .before .before .before .loop-test in
+    let room : l .at + 6 ≤ length (l .words) =
+    omega (arith, writing-room (rowBy (s .args .table .now) (s .args .order .now)) (s .args .count) (s .args .words .now) 0 (copies-room (s .args .table .now) (s .args .order .now) (s .args .count) (s .args .words .now) (s .pre .1)) (l .words) (l .at) (l .k) (l .inv .1) (loop-test .taken), length-by (s .args .table .now) (s .args .order .now) (l .k) (s .pre .2 (l .k) (loop-test .taken)))
     in
     search needs
 
@@ -47,17 +59,23 @@ loop-less : tie.Need-loop-less Inv-loop μ-loop
 loop-less c = search needs
 
 loop-again : tie.Need-loop-again Inv-loop μ-loop
-loop-again c = (
-  search needs,
-  writing-step (rowBy (c .before .before .before .before .before .before .before .before .before .before .args .table .now) (c .before .before .before .before .before .before .before .before .before .before .args .order .now)) (c .before .before .before .before .before .before .before .before .before .before .args .count) (c .before .before .before .before .before .before .before .before .before .before .args .words .now) 0 (copies-room (c .before .before .before .before .before .before .before .before .before .before .args .table .now) (c .before .before .before .before .before .before .before .before .before .before .args .order .now) (c .before .before .before .before .before .before .before .before .before .before .args .count) (c .before .before .before .before .before .before .before .before .before .before .args .words .now) (c .before .before .before .before .before .before .before .before .before .before .pre .1)) (c .before .before .before .before .before .before .loop .words) (c .before .before .before .before .before .before .loop .at) (c .before .before .before .before .before .before .loop .k) (c .before .before .before .before .before .before .loop .inv .1) (c .before .before .before .before .before .loop-test .taken) _ _ (c .before .before .copy-row .ensures)
-      (ap (λ (w : ℕ). c .before .before .before .before .before .before .loop .at + w) (sym (length-by (c .before .before .before .before .before .before .before .before .before .before .args .table .now) (c .before .before .before .before .before .before .before .before .before .before .args .order .now) (c .before .before .before .before .before .before .loop .k) (c .before .before .before .before .before .before .before .before .before .before .pre .2 (c .before .before .before .before .before .before .loop .k) (c .before .before .before .before .before .loop-test .taken))))),
-)
+loop-again c =
+    let s = c .before .before .before .before .before .before .before .before .before .before in
+    let loop-test = c .before .before .before .before .before .loop-test in
+    let l = c .before .before .before .before .before .before .loop in (
+      search needs,
+      writing-step (rowBy (s .args .table .now) (s .args .order .now)) (s .args .count) (s .args .words .now) 0 (copies-room (s .args .table .now) (s .args .order .now) (s .args .count) (s .args .words .now) (s .pre .1)) (l .words) (l .at) (l .k) (l .inv .1) (loop-test .taken) _ _ (c .before .before .copy-row .ensures)
+          (ap (λ (w : ℕ). l .at + w) (sym (length-by (s .args .table .now) (s .args .order .now) (l .k) (s .pre .2 (l .k) (loop-test .taken))))),
+    )
 
 same-length : tie.Need-same-length Inv-loop μ-loop
 same-length c = search needs
 
 returns : tie.Need-returns Inv-loop μ-loop
-returns c = writing-end (rowBy (c .before .before .before .before .before .args .table .now) (c .before .before .before .before .before .args .order .now)) (c .before .before .before .before .before .args .count) (c .before .before .before .before .before .args .words .now) 0 (copies-room (c .before .before .before .before .before .args .table .now) (c .before .before .before .before .before .args .order .now) (c .before .before .before .before .before .args .count) (c .before .before .before .before .before .args .words .now) (c .before .before .before .before .before .pre .1)) (c .before .loop .words) (c .before .loop .at) (c .before .loop .k) (c .before .loop .inv .1) (c .loop-test .left) .0
+returns c =
+    let s = c .before .before .before .before .before in
+    let l = c .before .loop in
+    writing-end (rowBy (s .args .table .now) (s .args .order .now)) (s .args .count) (s .args .words .now) 0 (copies-room (s .args .table .now) (s .args .order .now) (s .args .count) (s .args .words .now) (s .pre .1)) (l .words) (l .at) (l .k) (l .inv .1) (c .loop-test .left) .0
 
 pub copy-rows-spec : {M : Type 1} → statement M
 copy-rows-spec =

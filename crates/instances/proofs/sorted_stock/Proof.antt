@@ -16,14 +16,18 @@ slice-aggregate-copy-rows-2 : tie.Need-slice-aggregate-copy-rows-2
 slice-aggregate-copy-rows-2 c = search needs
 
 copy-rows-requires : tie.Need-copy-rows-requires
-copy-rows-requires c κs = (
-  order-long (c .before .before .before .before .args .raw .now) (c .before .before .sorted-order .result) (c .before .before .before .before .args .count) (64 - c .before .before .before .before .args .count) (c .before .before .sorted-order .ensures),
-  search needs,
-  order-row (c .before .before .before .before .args .raw .now) (c .before .before .sorted-order .result) (c .before .before .before .before .args .count) (64 - c .before .before .before .before .args .count) (c .before .before .sorted-order .ensures) (c .before .before .before .before .pre .0),
-)
+copy-rows-requires c κs =
+    let s = c .before .before .before .before in (
+      order-long (s .args .raw .now) (c .before .before .sorted-order .result) (s .args .count) (64 - s .args .count) (c .before .before .sorted-order .ensures),
+      search needs,
+      order-row (s .args .raw .now) (c .before .before .sorted-order .result) (s .args .count) (64 - s .args .count) (c .before .before .sorted-order .ensures) (s .pre .0),
+    )
 
 returns : tie.Need-returns
-returns c = sorted-held (c .before .before .before .before .before .before .args .raw .now) (c .before .before .before .before .sorted-order .result) _ (c .before .before .before .before .before .before .args .count) 384 (64 - c .before .before .before .before .before .before .args .count) (c .before .before .before .before .before .before .pre .0) (omega arith) (c .before .before .before .before .sorted-order .ensures) (c .before .copy-rows .ensures)
+returns c =
+    let s = c .before .before .before .before .before .before in
+    let sorted-order = c .before .before .before .before .sorted-order in
+    sorted-held (s .args .raw .now) (sorted-order .result) _ (s .args .count) 384 (64 - s .args .count) (s .pre .0) (omega arith) (sorted-order .ensures) (c .before .copy-rows .ensures)
 
 pub sorted-stock-spec : {M : Type 1} → statement M
 sorted-stock-spec =

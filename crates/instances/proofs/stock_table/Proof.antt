@@ -17,19 +17,27 @@ slice-aggregate-store-records : tie.Need-slice-aggregate-store-records
 slice-aggregate-store-records c = search needs
 
 store-records-requires : tie.Need-store-records-requires
-store-records-requires c κs = let s : Shape (c .before .before .before .before .args .file .now) = shape (c .before .before .before .before .args .file .now) (passed-formed (c .before .before .before .before .args .file .now) (c .before .before .before .before .pre)) in (omega (arith, c .before .before .stock-records .ensures), stock-room (c .before .before .before .before .args .file .now) (c .before .before .before .before .pre) (c .before .before .stock-records .result) (c .before .before .stock-records .ensures) _ (lit≤ tt))
+store-records-requires c κs =
+    let c2 = c .before .before in
+    let c4 = c2 .before .before in
+    let stock-records = c2 .stock-records in
+    let s : Shape (c4 .args .file .now) = shape (c4 .args .file .now) (passed-formed (c4 .args .file .now) (c4 .pre)) in (omega (arith, stock-records .ensures), stock-room (c4 .args .file .now) (c4 .pre) (stock-records .result) (stock-records .ensures) _ (lit≤ tt))
 
 slice-aggregate-sorted-stock : tie.Need-slice-aggregate-sorted-stock
 slice-aggregate-sorted-stock c = search needs
 
 sorted-stock-requires : tie.Need-sorted-stock-requires
 sorted-stock-requires c κs =
-    let few = stock-few (c .before .before .before .before .before .before .before .args .file .now) (c .before .before .before .before .before .before .before .pre) (c .before .before .before .before .before .stock-records .result) (c .before .before .before .before .before .stock-records .ensures) in
+    let s = c .before .before .before .before .before .before .before in
+    let few = stock-few (s .args .file .now) (s .pre) (c .before .before .before .before .before .stock-records .result) (c .before .before .before .before .before .stock-records .ensures) in
     let count = c .before .before .before .before .total-quantity .ensures in
     (omega arith, omega arith)
 
 returns : tie.Need-returns
-returns c = stock-done (c .before .before .before .before .before .before .before .before .args .file .now) (c .before .before .before .before .before .before .before .before .pre) (c .before .before .before .before .before .before .stock-records .result) (c .before .before .before .before .before .before .stock-records .ensures) 384 (lit≤ tt) _ _ _ _ (c .before .before .before .before .before .total-quantity .ensures) (c .before .before .before .store-records .ensures) (c .sorted-stock .ensures)
+returns c =
+    let s = c .before .before .before .before .before .before .before .before in
+    let stock-records = c .before .before .before .before .before .before .stock-records in
+    stock-done (s .args .file .now) (s .pre) (stock-records .result) (stock-records .ensures) 384 (lit≤ tt) _ _ _ _ (c .before .before .before .before .before .total-quantity .ensures) (c .before .before .before .store-records .ensures) (c .sorted-stock .ensures)
 
 pub stock-table-spec : {M : Type 1} → statement M
 stock-table-spec =

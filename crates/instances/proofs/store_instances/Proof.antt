@@ -20,15 +20,23 @@ row-words-requires : tie.Need-row-words-requires Inv-loop μ-loop
 row-words-requires c κs = search needs
 
 loop-holds : tie.Need-loop-holds Inv-loop μ-loop
-loop-holds c = (search needs, writing-start (rowOf (c .before .before .args .kind) (pieceOf (c .before .before .args .p))) (c .before .before .args .p .quantity) (c .before .before .args .words .now) (c .before .before .args .from) (instances-room (c .before .before .args .kind) (pieceOf (c .before .before .args .p)) (c .before .before .args .words .now) (c .before .before .args .from) (c .before .before .pre)))
+loop-holds c =
+    let s = c .before .before in
+    (search needs, writing-start (rowOf (s .args .kind) (pieceOf (s .args .p))) (s .args .p .quantity) (s .args .words .now) (s .args .from) (instances-room (s .args .kind) (pieceOf (s .args .p)) (s .args .words .now) (s .args .from) (s .pre)))
 
 store-row-requires : tie.Need-store-row-requires Inv-loop μ-loop
-store-row-requires c κs = omega (arith, writing-room (rowOf (c .before .before .before .before .before .args .kind) (pieceOf (c .before .before .before .before .before .args .p))) (c .before .before .before .before .before .args .p .quantity) (c .before .before .before .before .before .args .words .now) (c .before .before .before .before .before .args .from) (instances-room (c .before .before .before .before .before .args .kind) (pieceOf (c .before .before .before .before .before .args .p)) (c .before .before .before .before .before .args .words .now) (c .before .before .before .before .before .args .from) (c .before .before .before .before .before .pre)) (c .before .before .loop .words) (c .before .before .loop .at) (c .before .before .loop .n) (c .before .before .loop .inv .1) (c .before .loop-test .taken), length-row (c .before .before .before .before .before .args .kind) (pieceOf (c .before .before .before .before .before .args .p)) (c .before .before .loop .n))
+store-row-requires c κs =
+    let s = c .before .before .before .before .before in
+    let l = c .before .before .loop in
+    omega (arith, writing-room (rowOf (s .args .kind) (pieceOf (s .args .p))) (s .args .p .quantity) (s .args .words .now) (s .args .from) (instances-room (s .args .kind) (pieceOf (s .args .p)) (s .args .words .now) (s .args .from) (s .pre)) (l .words) (l .at) (l .n) (l .inv .1) (c .before .loop-test .taken), length-row (s .args .kind) (pieceOf (s .args .p)) (l .n))
 
 add-at : tie.Need-add-at Inv-loop μ-loop
 add-at c =
-    let room : c .before .before .before .before .before .loop .at + c .before .before .before .before .before .before .row-words .result ≤ length (c .before .before .before .before .before .loop .words) =
-    omega (arith, c .before .before .before .before .before .before .row-words .ensures, writing-room (rowOf (c .before .before .before .before .before .before .before .before .args .kind) (pieceOf (c .before .before .before .before .before .before .before .before .args .p))) (c .before .before .before .before .before .before .before .before .args .p .quantity) (c .before .before .before .before .before .before .before .before .args .words .now) (c .before .before .before .before .before .before .before .before .args .from) (instances-room (c .before .before .before .before .before .before .before .before .args .kind) (pieceOf (c .before .before .before .before .before .before .before .before .args .p)) (c .before .before .before .before .before .before .before .before .args .words .now) (c .before .before .before .before .before .before .before .before .args .from) (c .before .before .before .before .before .before .before .before .pre)) (c .before .before .before .before .before .loop .words) (c .before .before .before .before .before .loop .at) (c .before .before .before .before .before .loop .n) (c .before .before .before .before .before .loop .inv .1) (c .before .before .before .before .loop-test .taken), length-row (c .before .before .before .before .before .before .before .before .args .kind) (pieceOf (c .before .before .before .before .before .before .before .before .args .p)) (c .before .before .before .before .before .loop .n))
+    let s = c .before .before .before .before .before .before .before .before in
+    let l = c .before .before .before .before .before .loop in
+    let row-words = c .before .before .before .before .before .before .row-words in
+    let room : l .at + row-words .result ≤ length (l .words) =
+    omega (arith, row-words .ensures, writing-room (rowOf (s .args .kind) (pieceOf (s .args .p))) (s .args .p .quantity) (s .args .words .now) (s .args .from) (instances-room (s .args .kind) (pieceOf (s .args .p)) (s .args .words .now) (s .args .from) (s .pre)) (l .words) (l .at) (l .n) (l .inv .1) (c .before .before .before .before .loop-test .taken), length-row (s .args .kind) (pieceOf (s .args .p)) (l .n))
     in
     search needs
 
@@ -39,19 +47,23 @@ loop-less : tie.Need-loop-less Inv-loop μ-loop
 loop-less c = search needs
 
 loop-again : tie.Need-loop-again Inv-loop μ-loop
-loop-again c = (
-  search needs,
-  writing-step (rowOf (c .before .before .before .before .before .before .before .before .args .kind) (pieceOf (c .before .before .before .before .before .before .before .before .args .p))) (c .before .before .before .before .before .before .before .before .args .p .quantity) (c .before .before .before .before .before .before .before .before .args .words .now) (c .before .before .before .before .before .before .before .before .args .from) (instances-room (c .before .before .before .before .before .before .before .before .args .kind) (pieceOf (c .before .before .before .before .before .before .before .before .args .p)) (c .before .before .before .before .before .before .before .before .args .words .now) (c .before .before .before .before .before .before .before .before .args .from) (c .before .before .before .before .before .before .before .before .pre)) (c .before .before .before .before .before .loop .words) (c .before .before .before .before .before .loop .at) (c .before .before .before .before .before .loop .n) (c .before .before .before .before .before .loop .inv .1) (c .before .before .before .before .loop-test .taken) _ _ (c .before .before .store-row .ensures)
-      (ap (λ (w : ℕ). c .before .before .before .before .before .loop .at + w) (c .before .before .before .before .before .before .row-words .ensures ∙ sym (length-row (c .before .before .before .before .before .before .before .before .args .kind) (pieceOf (c .before .before .before .before .before .before .before .before .args .p)) (c .before .before .before .before .before .loop .n)))),
-)
+loop-again c =
+    let s = c .before .before .before .before .before .before .before .before in
+    let l = c .before .before .before .before .before .loop in (
+      search needs,
+      writing-step (rowOf (s .args .kind) (pieceOf (s .args .p))) (s .args .p .quantity) (s .args .words .now) (s .args .from) (instances-room (s .args .kind) (pieceOf (s .args .p)) (s .args .words .now) (s .args .from) (s .pre)) (l .words) (l .at) (l .n) (l .inv .1) (c .before .before .before .before .loop-test .taken) _ _ (c .before .before .store-row .ensures)
+          (ap (λ (w : ℕ). l .at + w) (c .before .before .before .before .before .before .row-words .ensures ∙ sym (length-row (s .args .kind) (pieceOf (s .args .p)) (l .n)))),
+    )
 
 same-length : tie.Need-same-length Inv-loop μ-loop
 same-length c = search needs
 
 returns : tie.Need-returns Inv-loop μ-loop
 returns c =
-    instances-end (c .before .before .before .before .args .kind) (pieceOf (c .before .before .before .before .args .p)) (c .before .before .before .before .args .words .now) (c .before .before .before .before .args .from) (c .before .loop .words) (c .before .loop .at)
-    (writing-end (rowOf (c .before .before .before .before .args .kind) (pieceOf (c .before .before .before .before .args .p))) (c .before .before .before .before .args .p .quantity) (c .before .before .before .before .args .words .now) (c .before .before .before .before .args .from) (instances-room (c .before .before .before .before .args .kind) (pieceOf (c .before .before .before .before .args .p)) (c .before .before .before .before .args .words .now) (c .before .before .before .before .args .from) (c .before .before .before .before .pre)) (c .before .loop .words) (c .before .loop .at) (c .before .loop .n) (c .before .loop .inv .1) (c .loop-test .left))
+    let s = c .before .before .before .before in
+    let l = c .before .loop in
+    instances-end (s .args .kind) (pieceOf (s .args .p)) (s .args .words .now) (s .args .from) (l .words) (l .at)
+    (writing-end (rowOf (s .args .kind) (pieceOf (s .args .p))) (s .args .p .quantity) (s .args .words .now) (s .args .from) (instances-room (s .args .kind) (pieceOf (s .args .p)) (s .args .words .now) (s .args .from) (s .pre)) (l .words) (l .at) (l .n) (l .inv .1) (c .loop-test .left))
 
 pub store-instances-spec : {M : Type 1} → statement M
 store-instances-spec =

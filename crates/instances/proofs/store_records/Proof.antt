@@ -18,7 +18,9 @@ abbrev μ-loop : tie.MeasureT-loop
 μ-loop words₀ kind file base n at₀ i₀ words at i = n - i
 
 loop-holds : tie.Need-loop-holds Inv-loop μ-loop
-loop-holds c = (search needs, writing-start (λ j. rowsOf (c .before .before .args .kind) (recordAt (c .before .before .args .file .now) (c .before .before .args .base) j)) (c .before .before .args .n) (c .before .before .args .words .now) 0 (records-room (c .before .before .args .kind) (c .before .before .args .file .now) (c .before .before .args .base) (c .before .before .args .n) (c .before .before .args .words .now) (c .before .before .pre .1)))
+loop-holds c =
+    let s = c .before .before in
+    (search needs, writing-start (λ j. rowsOf (s .args .kind) (recordAt (s .args .file .now) (s .args .base) j)) (s .args .n) (s .args .words .now) 0 (records-room (s .args .kind) (s .args .file .now) (s .args .base) (s .args .n) (s .args .words .now) (s .pre .1)))
 
 mul-piece-at : tie.Need-mul-piece-at Inv-loop μ-loop
 mul-piece-at c = search needs
@@ -31,8 +33,10 @@ piece-at-requires c κs = search needs
 
 store-instances-requires : tie.Need-store-instances-requires Inv-loop μ-loop
 store-instances-requires c κs =
-    subst (λ (q : Piece). c .before .before .before .loop .at + length (rowsOf (c .before .before .before .before .before .before .args .kind) q) ≤ length (c .before .before .before .loop .words)) (sym (c .before .piece-at .ensures))
-    (writing-room (λ j. rowsOf (c .before .before .before .before .before .before .args .kind) (recordAt (c .before .before .before .before .before .before .args .file .now) (c .before .before .before .before .before .before .args .base) j)) (c .before .before .before .before .before .before .args .n) (c .before .before .before .before .before .before .args .words .now) 0 (records-room (c .before .before .before .before .before .before .args .kind) (c .before .before .before .before .before .before .args .file .now) (c .before .before .before .before .before .before .args .base) (c .before .before .before .before .before .before .args .n) (c .before .before .before .before .before .before .args .words .now) (c .before .before .before .before .before .before .pre .1)) (c .before .before .before .loop .words) (c .before .before .before .loop .at) (c .before .before .before .loop .i) (c .before .before .before .loop .inv .1) (c .before .before .loop-test .taken))
+    let s = c .before .before .before .before .before .before in
+    let l = c .before .before .before .loop in
+    subst (λ (q : Piece). l .at + length (rowsOf (s .args .kind) q) ≤ length (l .words)) (sym (c .before .piece-at .ensures))
+    (writing-room (λ j. rowsOf (s .args .kind) (recordAt (s .args .file .now) (s .args .base) j)) (s .args .n) (s .args .words .now) 0 (records-room (s .args .kind) (s .args .file .now) (s .args .base) (s .args .n) (s .args .words .now) (s .pre .1)) (l .words) (l .at) (l .i) (l .inv .1) (c .before .before .loop-test .taken))
 
 add-i : tie.Need-add-i Inv-loop μ-loop
 add-i c = search needs
@@ -41,18 +45,26 @@ loop-less : tie.Need-loop-less Inv-loop μ-loop
 loop-less c = search needs
 
 loop-again : tie.Need-loop-again Inv-loop μ-loop
-loop-again c = (
-  search needs,
-  writing-step (λ j. rowsOf (c .before .before .before .before .before .before .before .before .before .args .kind) (recordAt (c .before .before .before .before .before .before .before .before .before .args .file .now) (c .before .before .before .before .before .before .before .before .before .args .base) j)) (c .before .before .before .before .before .before .before .before .before .args .n) (c .before .before .before .before .before .before .before .before .before .args .words .now) 0 (records-room (c .before .before .before .before .before .before .before .before .before .args .kind) (c .before .before .before .before .before .before .before .before .before .args .file .now) (c .before .before .before .before .before .before .before .before .before .args .base) (c .before .before .before .before .before .before .before .before .before .args .n) (c .before .before .before .before .before .before .before .before .before .args .words .now) (c .before .before .before .before .before .before .before .before .before .pre .1)) (c .before .before .before .before .before .before .loop .words) (c .before .before .before .before .before .before .loop .at) (c .before .before .before .before .before .before .loop .i) (c .before .before .before .before .before .before .loop .inv .1) (c .before .before .before .before .before .loop-test .taken) _ _
-      (c .before .before .store-instances .ensures .1 ∙ ap (λ (q : Piece). patch (c .before .before .before .before .before .before .loop .words) (c .before .before .before .before .before .before .loop .at) (rowsOf (c .before .before .before .before .before .before .before .before .before .args .kind) q)) (c .before .before .before .before .piece-at .ensures))
-      (c .before .before .store-instances .ensures .0 ∙ ap (λ (q : Piece). c .before .before .before .before .before .before .loop .at + length (rowsOf (c .before .before .before .before .before .before .before .before .before .args .kind) q)) (c .before .before .before .before .piece-at .ensures)),
-)
+loop-again c =
+    let s = c .before .before .before .before .before .before .before .before .before in
+    let piece-at = c .before .before .before .before .piece-at in
+    let store-instances = c .before .before .store-instances in
+    let l = c .before .before .before .before .before .before .loop in (
+      search needs,
+      writing-step (λ j. rowsOf (s .args .kind) (recordAt (s .args .file .now) (s .args .base) j)) (s .args .n) (s .args .words .now) 0 (records-room (s .args .kind) (s .args .file .now) (s .args .base) (s .args .n) (s .args .words .now) (s .pre .1)) (l .words) (l .at) (l .i) (l .inv .1) (c .before .before .before .before .before .loop-test .taken) _ _
+          (store-instances .ensures .1 ∙ ap (λ (q : Piece). patch (l .words) (l .at) (rowsOf (s .args .kind) q)) (piece-at .ensures))
+          (store-instances .ensures .0 ∙ ap (λ (q : Piece). l .at + length (rowsOf (s .args .kind) q)) (piece-at .ensures)),
+    )
 
 same-length : tie.Need-same-length Inv-loop μ-loop
 same-length c = search needs
 
 returns : tie.Need-returns Inv-loop μ-loop
-returns c = records-end (c .before .before .before .before .args .kind) (c .before .before .before .before .args .file .now) (c .before .before .before .before .args .base) (c .before .before .before .before .args .n) (c .before .before .before .before .args .words .now) (c .before .loop .words) (writing-end (λ j. rowsOf (c .before .before .before .before .args .kind) (recordAt (c .before .before .before .before .args .file .now) (c .before .before .before .before .args .base) j)) (c .before .before .before .before .args .n) (c .before .before .before .before .args .words .now) 0 (records-room (c .before .before .before .before .args .kind) (c .before .before .before .before .args .file .now) (c .before .before .before .before .args .base) (c .before .before .before .before .args .n) (c .before .before .before .before .args .words .now) (c .before .before .before .before .pre .1)) (c .before .loop .words) (c .before .loop .at) (c .before .loop .i) (c .before .loop .inv .1) (c .loop-test .left) .0)
+returns c =
+    let c4 = c .before .before .before .before in
+    let s = c4 in
+    let l = c .before .loop in
+    records-end (s .args .kind) (s .args .file .now) (s .args .base) (s .args .n) (s .args .words .now) (l .words) (writing-end (λ j. rowsOf (s .args .kind) (recordAt (s .args .file .now) (s .args .base) j)) (s .args .n) (s .args .words .now) 0 (records-room (s .args .kind) (s .args .file .now) (s .args .base) (s .args .n) (s .args .words .now) (s .pre .1)) (l .words) (l .at) (l .i) (l .inv .1) (c .loop-test .left) .0)
 
 pub store-records-spec : {M : Type 1} → statement M
 store-records-spec =

@@ -49,25 +49,30 @@ same-length c = search needs
 
 returns : tie.Need-returns
 returns c =
-    let l : List ℕ = c .before .before .before .before .before .before .before .before .before .before .args .words .now in
-    let at : ℕ = c .before .before .before .before .before .before .before .before .before .before .args .at in
-    let p : Piece = pieceOf (c .before .before .before .before .before .before .before .before .before .before .args .p) in
-    c .before .before .before .before .store-six .ensures ∙ ap (patch l at) (stock-row p (c .before .before .before .before .before .before .before .before .before .before .args .kind) (c .before .before .before .before .before .before .before .before .before .before .args .instance) _ _ _ (c .before .before .before .before .before .before .before .low-word .ensures) (c .before .before .before .before .before .before .high-word .ensures) (c .before .before .before .before .before .pattern-code .ensures) (c .enum-told .given .1))
+    let s = c .before .before .before .before .before .before .before .before .before .before in
+    let l : List ℕ = s .args .words .now in
+    let at : ℕ = s .args .at in
+    let p : Piece = pieceOf (s .args .p) in
+    c .before .before .before .before .store-six .ensures ∙ ap (patch l at) (stock-row p (s .args .kind) (s .args .instance) _ _ _ (c .before .before .before .before .before .before .before .low-word .ensures) (c .before .before .before .before .before .before .high-word .ensures) (c .before .before .before .before .before .pattern-code .ensures) (c .enum-told .given .1))
 
 same-length-2 : tie.Need-same-length-2
 same-length-2 c = search needs
 
 returns-2 : tie.Need-returns-2
 returns-2 c =
-    let l : List ℕ = c .before .before .before .before .before .before .before .before .before .before .before .args .words .now in
-    let at : ℕ = c .before .before .before .before .before .before .before .before .before .before .before .args .at in
-    let p : Piece = pieceOf (c .before .before .before .before .before .before .before .before .before .before .before .args .p) in
+    let s = c .before .before .before .before .before .before .before .before .before .before .before in
+    let low-word = c .before .before .before .before .before .before .before .before .low-word in
+    let high-word = c .before .before .before .before .before .before .before .high-word in
+    let pattern-code = c .before .before .before .before .before .before .pattern-code in
+    let l : List ℕ = s .args .words .now in
+    let at : ℕ = s .args .at in
+    let p : Piece = pieceOf (s .args .p) in
     let flag : ℕ = c .flag-code .result in
-    let room : at + wordsOf (c .before .before .before .before .before .before .before .before .before .before .before .args .kind) ≤ length l = c .before .before .before .before .before .before .before .before .before .before .before .pre in
-    let row : List ℕ = c .before .before .before .before .before .before .before .before .low-word .result ∷ c .before .before .before .before .before .before .before .high-word .result ∷ c .before .before .before .before .before .before .before .before .before .before .before .args .instance ∷ p .width ∷ p .length ∷ c .before .before .before .before .before .before .pattern-code .result ∷ [] in
+    let room : at + wordsOf (s .args .kind) ≤ length l = s .pre in
+    let row : List ℕ = low-word .result ∷ high-word .result ∷ s .args .instance ∷ p .width ∷ p .length ∷ pattern-code .result ∷ [] in
     ap (λ (r : List ℕ). set r (at + 6) flag) (c .before .before .before .before .before .store-six .ensures)
     ∙ store-behind l at flag row (omega (arith, ap wordsOf (c .before .enum-told2 .given .1)))
-    ∙ ap (patch l at) (cut-row p (c .before .before .before .before .before .before .before .before .before .before .before .args .kind) (c .before .before .before .before .before .before .before .before .before .before .before .args .instance) _ _ _ (c .before .before .before .before .before .before .before .before .low-word .ensures) (c .before .before .before .before .before .before .before .high-word .ensures) (c .before .before .before .before .before .before .pattern-code .ensures) flag (c .before .enum-told2 .given .1) (c .flag-code .ensures))
+    ∙ ap (patch l at) (cut-row p (s .args .kind) (s .args .instance) _ _ _ (low-word .ensures) (high-word .ensures) (pattern-code .ensures) flag (c .before .enum-told2 .given .1) (c .flag-code .ensures))
 
 pub store-row-spec : {M : Type 1} → statement M
 store-row-spec =

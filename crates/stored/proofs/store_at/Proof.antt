@@ -48,9 +48,11 @@ add-put-words-2 c = search needs
 
 put-words-requires-2 : tie.Need-put-words-requires-2
 put-words-requires-2 c κs =
-    let size : length (c .before .before .before .before .before .before .before .before .before .before .before .before .args .t3 .insertions) ≡ 64 = search needs in
-    let kept : length (c .before .before .before .before .before .before .put-words .last .0) ≡ length (c .before .before .before .before .before .before .before .before .before .before .before .before .args .ws .now) = c .before .before .before .before .before .before .put-words .kept .0 ∙ simp length-set in
-    (omega (arith, c .before .before .before .before .before .before .before .before .before .before .before .before .pre .1 .cuts), omega (arith, c .before .before .before .before .before .before .before .before .before .before .before .before .pre .0, c .before .before .before .before .before .before .before .before .before .before .before .before .pre .1 .cuts))
+    let s = c .before .before .before .before .before .before .before .before .before .before .before .before in
+    let put-words = c .before .before .before .before .before .before .put-words in
+    let size : length (s .args .t3 .insertions) ≡ 64 = search needs in
+    let kept : length (put-words .last .0) ≡ length (s .args .ws .now) = put-words .kept .0 ∙ simp length-set in
+    (omega (arith, s .pre .1 .cuts), omega (arith, s .pre .0, s .pre .1 .cuts))
 
 add-put-words-3 : tie.Need-add-put-words-3
 add-put-words-3 c = search needs
@@ -60,9 +62,11 @@ add-put-words-4 c = search needs
 
 put-words-requires-3 : tie.Need-put-words-requires-3
 put-words-requires-3 c κs =
-    let size : length (c .before .before .before .before .before .before .before .before .before .before .before .before .before .before .before .before .before .before .before .args .t3 .unused) ≡ 64 = search needs in
-    let kept : length (c .before .before .before .before .before .before .put-words2 .last .0) ≡ length (c .before .before .before .before .before .before .before .before .before .before .before .before .before .before .before .before .before .before .before .args .ws .now) = c .before .before .before .before .before .before .put-words2 .kept .0 ∙ c .before .before .before .before .before .before .before .before .before .before .before .before .before .put-words .kept .0 ∙ simp length-set in
-    (omega (arith, c .before .before .before .before .before .before .before .before .before .before .before .before .before .before .before .before .before .before .before .pre .1 .cuts), omega (arith, c .before .before .before .before .before .before .before .before .before .before .before .before .before .before .before .before .before .before .before .pre .0, c .before .before .before .before .before .before .before .before .before .before .before .before .before .before .before .before .before .before .before .pre .1 .cuts))
+    let s = c .before .before .before .before .before .before .before .before .before .before .before .before .before .before .before .before .before .before .before in
+    let put-words2 = c .before .before .before .before .before .before .put-words2 in
+    let size : length (s .args .t3 .unused) ≡ 64 = search needs in
+    let kept : length (put-words2 .last .0) ≡ length (s .args .ws .now) = put-words2 .kept .0 ∙ c .before .before .before .before .before .before .before .before .before .before .before .before .before .put-words .kept .0 ∙ simp length-set in
+    (omega (arith, s .pre .1 .cuts), omega (arith, s .pre .0, s .pre .1 .cuts))
 
 same-length : tie.Need-same-length
 same-length c = c .before .before .put-words3 .kept .0 ∙ c .before .before .before .before .before .before .before .before .before .put-words2 .kept .0 ∙ c .before .before .before .before .before .before .before .before .before .before .before .before .before .before .before .before .put-words .kept .0 ∙ simp length-set
@@ -71,6 +75,9 @@ returns : tie.Need-returns
 unfolding storeIn packed
 returns c =
     let s = c .before .before .before .before .before .before .before .before .before .before .before .before .before .before .before .before .before .before .before .before .before .before in
+    let put-words = c .before .before .before .before .before .before .before .before .before .before .before .before .before .before .before .before .put-words in
+    let put-words2 = c .before .before .before .before .before .before .before .before .before .put-words2 in
+    let put-words3 = c .before .before .put-words3 in
     let k = s .args .t3 in
     let at : ℕ = slotWords * s .args .slot in
     let boards : length (c .before .before .before .before .before .before .before .before .before .before .before .before .before .before .before .before .before .before .before .before .before .before .args .t3 .boards) ≡ 64 = search needs in
@@ -78,8 +85,8 @@ returns c =
     let unused : length (c .before .before .before .before .before .before .before .before .before .before .before .before .before .before .before .before .before .before .before .before .before .before .args .t3 .unused) ≡ 64 = search needs in
     let fits : length (take (k .placed) (k .insertions)) ≡ k .placed = length-take-le (k .placed) (k .insertions) (omega (arith, s .pre .1 .cuts)) in
     let rest : length (take (k .«unused_count») (k .unused)) ≡ k .«unused_count» = length-take-le (k .«unused_count») (k .unused) (omega (arith, s .pre .1 .cuts)) in
-    store-words (s .args .ws .now) (c .before .before .before .before .before .before .before .before .before .before .before .before .before .before .before .before .put-words .last .0) (c .before .before .before .before .before .before .before .before .before .put-words2 .last .0) (c .before .before .put-words3 .last .0) at (k .sheets) (k .placed) (k .boards) (take (k .placed) (k .insertions)) (take (k .«unused_count») (k .unused))
-    boards fits (omega (arith, s .pre .0, s .pre .1 .cuts)) (c .before .before .before .before .before .before .before .before .before .before .before .before .before .before .before .before .put-words .ensures ∙ ap (patch _ (at + 2)) (take-all 64 (k .boards) (omega arith))) (c .before .before .before .before .before .before .before .before .before .put-words2 .ensures) (c .before .before .put-words3 .ensures)
+    store-words (s .args .ws .now) (put-words .last .0) (put-words2 .last .0) (put-words3 .last .0) at (k .sheets) (k .placed) (k .boards) (take (k .placed) (k .insertions)) (take (k .«unused_count») (k .unused))
+    boards fits (omega (arith, s .pre .0, s .pre .1 .cuts)) (put-words .ensures ∙ ap (patch _ (at + 2)) (take-all 64 (k .boards) (omega arith))) (put-words2 .ensures) (put-words3 .ensures)
 
 pub store-at-spec : {M : Type 1} → statement M
 store-at-spec =
