@@ -18,7 +18,9 @@ join-requires : tie.Need-join-requires
 join-requires c κs = search needs
 
 returns : tie.Need-returns
-returns c = c .join .ensures ∙ row-right (c .before .before .before .before .before .before .args .kerf-width) (c .before .before .before .before .before .before .args .left) (c .before .before .before .before .before .before .args .right) (sym (c .before .before .before .before .before .same-row .ensures) ∙ c .before .before .before .before .if1 .taken) (c .before .if2 .taken)
+returns c =
+    let s = c .before .before .before .before .before .before in
+    c .join .ensures ∙ row-right (s .args .kerf-width) (s .args .left) (s .args .right) (sym (c .before .before .before .before .before .same-row .ensures) ∙ c .before .before .before .before .if1 .taken) (c .before .if2 .taken)
 
 add-if3 : tie.Need-add-if3
 add-if3 c = search needs
@@ -30,10 +32,14 @@ join-requires-2 : tie.Need-join-requires-2
 join-requires-2 c κs = search needs
 
 returns-2 : tie.Need-returns-2
-returns-2 c = c .join2 .ensures ∙ row-left (c .before .before .before .before .before .before .before .before .before .args .kerf-width) (c .before .before .before .before .before .before .before .before .before .args .left) (c .before .before .before .before .before .before .before .before .before .args .right) (sym (c .before .before .before .before .before .before .before .before .same-row .ensures) ∙ c .before .before .before .before .before .before .before .if1 .taken) (c .before .before .before .before .if2 .left) (c .before .if3 .taken)
+returns-2 c =
+    let s = c .before .before .before .before .before .before .before .before .before in
+    c .join2 .ensures ∙ row-left (s .args .kerf-width) (s .args .left) (s .args .right) (sym (c .before .before .before .before .before .before .before .before .same-row .ensures) ∙ c .before .before .before .before .before .before .before .if1 .taken) (c .before .before .before .before .if2 .left) (c .before .if3 .taken)
 
 returns-3 : tie.Need-returns-3
-returns-3 c = row-neither (c .before .before .before .before .before .before .before .before .args .kerf-width) (c .before .before .before .before .before .before .before .before .args .left) (c .before .before .before .before .before .before .before .before .args .right) (sym (c .before .before .before .before .before .before .before .same-row .ensures) ∙ c .before .before .before .before .before .before .if1 .taken) (c .before .before .before .if2 .left) (c .if3 .left)
+returns-3 c =
+    let s = c .before .before .before .before .before .before .before .before in
+    row-neither (s .args .kerf-width) (s .args .left) (s .args .right) (sym (c .before .before .before .before .before .before .before .same-row .ensures) ∙ c .before .before .before .before .before .before .if1 .taken) (c .before .before .before .if2 .left) (c .if3 .left)
 
 returns-4 : tie.Need-returns-4
 returns-4 c = row-other (c .before .before .args .kerf-width) (c .before .before .args .left) (c .before .before .args .right) (sym (c .before .same-row .ensures) ∙ c .if1 .left)

@@ -31,7 +31,9 @@ loop-less : tie.Need-loop-less Inv-loop μ-loop
 loop-less c = search needs
 
 loop-again : tie.Need-loop-again Inv-loop μ-loop
-loop-again c = (search needs, omega (arith, c .before .before .put-byte .ensures .reached, c .before .before .put-byte .ensures .size), appended-more _ _ (c .before .before .before .before .before .before .loop .inv .2) (c .before .before .put-byte .ensures) (c .before .before .before .before .before .loop-test .taken))
+loop-again c =
+    let put-byte = c .before .before .put-byte in
+    (search needs, omega (arith, put-byte .ensures .reached, put-byte .ensures .size), appended-more _ _ (c .before .before .before .before .before .before .loop .inv .2) (put-byte .ensures) (c .before .before .before .before .before .loop-test .taken))
 
 same-length : tie.Need-same-length Inv-loop μ-loop
 same-length c = c .before .loop .inv .2 .size

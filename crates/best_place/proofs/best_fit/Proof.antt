@@ -24,14 +24,18 @@ best-fit-from-requires c κs = search needs
 returns : tie.Need-returns
 returns c =
     let a = c .before .before .before .before .before .before .args in
-    search-all (now (a .sheet)) (c .before .before .before .before .ways-to-lie .result) (a .cut) (a .heuristic) (a .stock-pattern) (c .before .before .before .next-fit .result) _ (c .before .before .before .before .ways-to-lie .ensures) (c .before .before .before .next-fit .ensures)
+    let ways-to-lie = c .before .before .before .before .ways-to-lie in
+    let next-fit = c .before .before .before .next-fit in
+    search-all (now (a .sheet)) (ways-to-lie .result) (a .cut) (a .heuristic) (a .stock-pattern) (next-fit .result) _ (ways-to-lie .ensures) (next-fit .ensures)
     (c .best-fit-from .ensures)
 
 returns-2 : tie.Need-returns-2
 returns-2 c =
     let a = c .before .before .before .before .before .args in
-    search-all (now (a .sheet)) (c .before .before .before .ways-to-lie .result) (a .cut) (a .heuristic) (a .stock-pattern) (c .before .before .next-fit .result) _ (c .before .before .before .ways-to-lie .ensures) (c .before .before .next-fit .ensures)
-    (search-none (now (a .sheet)) (c .before .before .before .ways-to-lie .result) (a .cut) (a .heuristic) (c .before .before .next-fit .result) (omega (arith, c .if1 .left)))
+    let ways-to-lie = c .before .before .before .ways-to-lie in
+    let next-fit = c .before .before .next-fit in
+    search-all (now (a .sheet)) (ways-to-lie .result) (a .cut) (a .heuristic) (a .stock-pattern) (next-fit .result) _ (ways-to-lie .ensures) (next-fit .ensures)
+    (search-none (now (a .sheet)) (ways-to-lie .result) (a .cut) (a .heuristic) (next-fit .result) (omega (arith, c .if1 .left)))
 
 pub best-fit-spec : {M : Type 1} → statement M
 best-fit-spec =

@@ -26,15 +26,18 @@ consider-fit-requires-3 : tie.Need-consider-fit-requires-3
 consider-fit-requires-3 c κs = search needs
 
 returns : tie.Need-returns
-returns c = rw (← (c .before .before .fits-by-ways .ensures), c .enum-told .given .1) (over-none (c .before .before .before .args .heuristic) (c .before .before .before .args .best) (c .before .before .before .pre))
+returns c =
+    let s = c .before .before .before in
+    rw (← (c .before .before .fits-by-ways .ensures), c .enum-told .given .1) (over-none (s .args .heuristic) (s .args .best) (s .pre))
 
 returns-2 : tie.Need-returns-2
 returns-2 c = rw (← (c .before .before .before .before .fits-by-ways .ensures), c .before .before .all .given .1) (c .consider-fit .ensures)
 
 returns-3 : tie.Need-returns-3
 returns-3 c =
+    let s = c .before .before .before .before .before .before in
     rw (← (c .before .before .before .before .before .fits-by-ways .ensures), c .before .before .before .all2 .given .1)
-    (over-then (c .before .before .before .before .before .before .args .heuristic) (c .before .before .before .before .before .before .args .best) (c .before .consider-fit2 .result) (c .consider-fit3 .result) _ _ (c .before .consider-fit2 .ensures) (c .consider-fit3 .ensures))
+    (over-then (s .args .heuristic) (s .args .best) (c .before .consider-fit2 .result) (c .consider-fit3 .result) _ _ (c .before .consider-fit2 .ensures) (c .consider-fit3 .ensures))
 
 pub consider-rect-spec : {M : Type 1} → statement M
 consider-rect-spec =

@@ -58,13 +58,15 @@ returns : tie.Need-returns
 unfolding instanceIn
 returns c =
     let s = c .before .before .before .before .before .before .before .before .before .before .before in
+    let donor-insertions = c .before .before .before .before .before .donor-insertions in
+    let rebuild-board = c .before .before .before .rebuild-board in
     let inst : ProblemInstance = instanceIn (s .args .stock .now) (s .args .cuts .now) (s .args .inst) in
     let words : List ℕ = donated (placedWords (s .args .t6)) (getD (s .args .t6 .boards) (s .args .index) 0) (s .args .h) in
-    let made = c .before .before .before .before .before .donor-insertions .ensures ∙ ap (λ (k : Words). withInsertions k words) (c .before .before .before .before .before .before .new-candidate .ensures) in
-    let none = answer-none inst (s .pre .0 .admitted) (s .pre .0 .ranged) (s .args .h) (s .args .left) (s .args .t6) (s .pre .1) (s .pre .2) (s .args .index) (s .pre .3) (c .before .before .before .before .before .donor-insertions .result) made
-    (sym (c .before .before .before .rebuild-board .ensures .0) ∙ not-true _ (c .if1 .taken))
+    let made = donor-insertions .ensures ∙ ap (λ (k : Words). withInsertions k words) (c .before .before .before .before .before .before .new-candidate .ensures) in
+    let none = answer-none inst (s .pre .0 .admitted) (s .pre .0 .ranged) (s .args .h) (s .args .left) (s .args .t6) (s .pre .1) (s .pre .2) (s .args .index) (s .pre .3) (donor-insertions .result) made
+    (sym (rebuild-board .ensures .0) ∙ not-true _ (c .if1 .taken))
     in
-    (no-child inst (childOf inst (s .args .h) (candidateIn inst (s .args .left)) (candidateIn inst (s .args .t6))) (s .args .left) none, c .before .before .before .rebuild-board .ensures .1)
+    (no-child inst (childOf inst (s .args .h) (candidateIn inst (s .args .left)) (candidateIn inst (s .args .t6))) (s .args .left) none, rebuild-board .ensures .1)
 
 child-sheet-requires : tie.Need-child-sheet-requires
 child-sheet-requires c κs =
@@ -74,10 +76,11 @@ child-sheet-requires c κs =
 others-unused-requires : tie.Need-others-unused-requires
 others-unused-requires c κs =
     let s = c .before .before .before .before .before .before .before .before .before .before .before .before in
+    let donor-insertions = c .before .before .before .before .before .before .donor-insertions in
     let inst : ProblemInstance = instanceIn (s .args .stock .now) (s .args .cuts .now) (s .args .inst) in
     let words : List ℕ = donated (placedWords (s .args .t6)) (getD (s .args .t6 .boards) (s .args .index) 0) (s .args .h) in
-    let made = c .before .before .before .before .before .before .donor-insertions .ensures ∙ ap (λ (k : Words). withInsertions k words) (c .before .before .before .before .before .before .before .new-candidate .ensures) in
-    let few = sheet-few inst (s .pre .0 .admitted) (s .pre .0 .ranged) (s .args .h) (s .args .left) (s .args .t6) (s .pre .1) (s .pre .2) (s .args .index) (s .pre .3) (c .before .before .before .before .before .before .donor-insertions .result) made (c .child-sheet .result) (c .child-sheet .ensures) in
+    let made = donor-insertions .ensures ∙ ap (λ (k : Words). withInsertions k words) (c .before .before .before .before .before .before .before .new-candidate .ensures) in
+    let few = sheet-few inst (s .pre .0 .admitted) (s .pre .0 .ranged) (s .args .h) (s .args .left) (s .args .t6) (s .pre .1) (s .pre .2) (s .args .index) (s .pre .3) (donor-insertions .result) made (c .child-sheet .result) (c .child-sheet .ensures) in
     (few .0, omega (arith, few .1, s .pre .0 .fewCuts))
 
 same-length-2 : tie.Need-same-length-2
@@ -87,21 +90,23 @@ returns-2 : tie.Need-returns-2
 unfolding instanceIn
 returns-2 c =
     let s = c .before .before .before .before .before .before .before .before .before .before .before .before .before in
+    let donor-insertions = c .before .before .before .before .before .before .before .donor-insertions in
+    let rebuild-board = c .before .before .before .before .before .rebuild-board in
     let stock : List ℕ = s .args .stock .now in
     let cuts : List ℕ = s .args .cuts .now in
     let inst : ProblemInstance = instanceIn stock cuts (s .args .inst) in
     let o = childOf inst (s .args .h) (candidateIn inst (s .args .left)) (candidateIn inst (s .args .t6)) in
     let words : List ℕ = donated (placedWords (s .args .t6)) (getD (s .args .t6 .boards) (s .args .index) 0) (s .args .h) in
-    let made = c .before .before .before .before .before .before .before .donor-insertions .ensures ∙ ap (λ (k : Words). withInsertions k words) (c .before .before .before .before .before .before .before .before .new-candidate .ensures) in
-    let answer = answer-some inst (s .pre .0 .admitted) (s .pre .0 .ranged) (s .args .h) (s .args .left) (s .args .t6) (s .pre .1) (s .pre .2) (s .args .index) (s .pre .3) (c .before .before .before .before .before .before .before .donor-insertions .result) made
-    (sym (c .before .before .before .before .before .rebuild-board .ensures .0) ∙ not-false _ (c .before .before .if1 .left))
+    let made = donor-insertions .ensures ∙ ap (λ (k : Words). withInsertions k words) (c .before .before .before .before .before .before .before .before .new-candidate .ensures) in
+    let answer = answer-some inst (s .pre .0 .admitted) (s .pre .0 .ranged) (s .args .h) (s .args .left) (s .args .t6) (s .pre .1) (s .pre .2) (s .args .index) (s .pre .3) (donor-insertions .result) made
+    (sym (rebuild-board .ensures .0) ∙ not-false _ (c .before .before .if1 .left))
     in
     let result : c .others-unused .result ≡ childWords (length (inst .cuts)) (s .args .left) (s .args .t6) (getD (s .args .t6 .boards) (s .args .index) 0) (s .args .h) =
-    child-is inst (s .pre .0 .admitted) (s .pre .0 .ranged) (s .args .h) (s .args .left) (s .args .t6) (s .pre .1) (s .pre .2) (s .args .index) (s .pre .3) (c .before .before .before .before .before .before .before .donor-insertions .result) made (c .before .child-sheet .result) (c .others-unused .result) (s .args .inst .cuts)
+    child-is inst (s .pre .0 .admitted) (s .pre .0 .ranged) (s .args .h) (s .args .left) (s .args .t6) (s .pre .1) (s .pre .2) (s .args .index) (s .pre .3) (donor-insertions .result) made (c .before .child-sheet .result) (c .others-unused .result) (s .args .inst .cuts)
     (c .before .child-sheet .ensures) (cut-count stock cuts (s .args .inst)) (c .others-unused .ensures)
     in (
       one-child inst o (c .others-unused .result) (answer .0 ∙ ap (λ (k : Words). some (candidateIn inst k)) (sym result)) (subst (Stands inst []) (sym result) (answer .1)),
-      c .before .before .before .before .before .rebuild-board .ensures .1,
+      rebuild-board .ensures .1,
     )
 
 pub child-of-sheet-spec : {M : Type 1} → statement M

@@ -71,11 +71,12 @@ add-areas : tie.Need-add-areas Inv-loop μ-loop
 add-areas c =
     let s = c .before .before .before .before .before .before .before .before .before in
     let l = c .before .before .before .before .before .before .loop in
+    let board-of = c .before .before .before .board-of in
     let here = c .before .before .before .before .before .loop-test .taken in
     let cuts : List ℕ = s .args .cuts .now in
     let words : List ℕ = s .args .insertions .now in
     let known = all-get (InTables cuts) words (l .i) 0 (s .pre .0) here in
-    let most = summed-most cuts words (l .areas) (l .i) (c .before .before .before .board-of .result) (c .area .result) here (c .before .before .before .board-of .ensures) (cut-area c) (omega (arith, c .before .before .before .board-of .ensures, known .0)) (l .inv .1) in
+    let most = summed-most cuts words (l .areas) (l .i) (board-of .result) (c .area .result) here (board-of .ensures) (cut-area c) (omega (arith, board-of .ensures, known .0)) (l .inv .1) in
     record { fits = omega (arith, most, s .pre .1) }
 
 mul-areas-2 : tie.Need-mul-areas-2 Inv-loop μ-loop
@@ -97,11 +98,12 @@ loop-again : tie.Need-loop-again Inv-loop μ-loop
 loop-again c =
     let s = c .before .before .before .before .before .before .before .before .before in
     let l = c .before .before .before .before .before .before .loop in
+    let board-of = c .before .before .before .board-of in
     let here = c .before .before .before .before .before .loop-test .taken in
     let cuts : List ℕ = s .args .cuts .now in
     let words : List ℕ = s .args .insertions .now in
     let known = all-get (InTables cuts) words (l .i) 0 (s .pre .0) here in
-    (search needs, summed-more cuts words (l .areas) (l .i) (c .before .before .before .board-of .result) (c .area .result) here (c .before .before .before .board-of .ensures) (cut-area c) (omega (arith, c .before .before .before .board-of .ensures, known .0)) (l .inv .1))
+    (search needs, summed-more cuts words (l .areas) (l .i) (board-of .result) (c .area .result) here (board-of .ensures) (cut-area c) (omega (arith, board-of .ensures, known .0)) (l .inv .1))
 
 returns : tie.Need-returns Inv-loop μ-loop
 returns c =

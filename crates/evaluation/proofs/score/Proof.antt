@@ -34,7 +34,8 @@ slice-aggregate-sum-areas c =
 sum-areas-requires : tie.Need-sum-areas-requires
 sum-areas-requires c κs =
     let s = c .before .before .before .before .before .before in
-    omega (arith, used-most (s .args .stock .now) (s .args .cuts .now) (s .args .inst) (s .args .c) (s .pre .0) (s .pre .1) (c .before .before .before .sheet-areas .result) (c .before .before .before .sheet-areas .ensures))
+    let sheet-areas = c .before .before .before .sheet-areas in
+    omega (arith, used-most (s .args .stock .now) (s .args .cuts .now) (s .args .inst) (s .args .c) (s .pre .0) (s .pre .1) (sheet-areas .result) (sheet-areas .ensures))
 
 array-share-prefix-placed : tie.Need-array-share-prefix-placed
 array-share-prefix-placed c =
@@ -55,12 +56,14 @@ slice-aggregate-sum-areas-2 c =
 sum-areas-requires-2 : tie.Need-sum-areas-requires-2
 sum-areas-requires-2 c κs =
     let s = c .before .before .before .before .before .before .before .before in
-    omega (arith, used-most (s .args .stock .now) (s .args .cuts .now) (s .args .inst) (s .args .c) (s .pre .0) (s .pre .1) (c .before .before .before .before .before .sheet-areas .result) (c .before .before .before .before .before .sheet-areas .ensures), cut-most (s .args .stock .now) (s .args .cuts .now) (s .args .inst) (s .args .c) (s .pre .0) (s .pre .1) (c .before .before .before .before .before .sheet-areas .result) (c .before .before .before .before .before .sheet-areas .ensures))
+    let sheet-areas = c .before .before .before .before .before .sheet-areas in
+    omega (arith, used-most (s .args .stock .now) (s .args .cuts .now) (s .args .inst) (s .args .c) (s .pre .0) (s .pre .1) (sheet-areas .result) (sheet-areas .ensures), cut-most (s .args .stock .now) (s .args .cuts .now) (s .args .inst) (s .args .c) (s .pre .0) (s .pre .1) (sheet-areas .result) (sheet-areas .ensures))
 
 sub-t15 : tie.Need-sub-t15
 sub-t15 c =
     let s = c .before .before .before .before .before .before .before .before .before in
-    omega (arith, c .sum-areas2 .ensures, c .before .before .sum-areas .ensures, cut-most (s .args .stock .now) (s .args .cuts .now) (s .args .inst) (s .args .c) (s .pre .0) (s .pre .1) (c .before .before .before .before .before .before .sheet-areas .result) (c .before .before .before .before .before .before .sheet-areas .ensures))
+    let sheet-areas = c .before .before .before .before .before .before .sheet-areas in
+    omega (arith, c .sum-areas2 .ensures, c .before .before .sum-areas .ensures, cut-most (s .args .stock .now) (s .args .cuts .now) (s .args .inst) (s .args .c) (s .pre .0) (s .pre .1) (sheet-areas .result) (sheet-areas .ensures))
 
 slice-aggregate-fitness : tie.Need-slice-aggregate-fitness
 slice-aggregate-fitness c = search needs
@@ -77,15 +80,18 @@ stock-room c = search needs
 fitness-requires : tie.Need-fitness-requires
 fitness-requires c κs =
     let s = c .before .before .before .before .before .before .before .before .before .before .before in
+    let sheet-areas = c .before .before .before .before .before .before .before .before .sheet-areas in
+    let before = c .before .before .before .before .before .before .before .before in
     let few = few-sheets (s .args .stock .now) (s .args .cuts .now) (s .args .inst) [] (s .args .c) (s .pre .0) (s .pre .1) in
     let all : s .args .c .sheets ≤ 64 = omega (arith, few, s .pre .0 .fewBoards) in
-    let used = used-most (s .args .stock .now) (s .args .cuts .now) (s .args .inst) (s .args .c) (s .pre .0) (s .pre .1) (c .before .before .before .before .before .before .before .before .sheet-areas .result) (c .before .before .before .before .before .before .before .before .sheet-areas .ensures) in
-    (le-trans all (le-of-eq (sym (placed-room (c .before .before .before .before .before .before .before .before)))), le-trans all (le-of-eq (sym (stock-room (c .before .before .before .before .before .before .before .before)))), omega (arith, used))
+    let used = used-most (s .args .stock .now) (s .args .cuts .now) (s .args .inst) (s .args .c) (s .pre .0) (s .pre .1) (sheet-areas .result) (sheet-areas .ensures) in
+    (le-trans all (le-of-eq (sym (placed-room (before)))), le-trans all (le-of-eq (sym (stock-room (before)))), omega (arith, used))
 
 returns : tie.Need-returns
 returns c =
     let s = c .before .before .before .before .before .before .before .before .before .before .before .before in
-    score-words (s .args .stock .now) (s .args .cuts .now) (s .args .inst) (s .args .c) (s .pre .0) (s .pre .1) (c .before .before .before .before .before .before .before .before .before .sheet-areas .result) (c .before .before .before .before .before .before .before .before .before .sheet-areas .ensures) _ _ (ap₂ _-_ (c .before .before .before .before .before .sum-areas .ensures) (c .before .before .before .sum-areas2 .ensures)) (c .fitness .ensures)
+    let sheet-areas = c .before .before .before .before .before .before .before .before .before .sheet-areas in
+    score-words (s .args .stock .now) (s .args .cuts .now) (s .args .inst) (s .args .c) (s .pre .0) (s .pre .1) (sheet-areas .result) (sheet-areas .ensures) _ _ (ap₂ _-_ (c .before .before .before .before .before .sum-areas .ensures) (c .before .before .before .sum-areas2 .ensures)) (c .fitness .ensures)
 
 pub score-spec : {M : Type 1} → statement M
 score-spec =

@@ -53,7 +53,9 @@ find-free-leaf-shared-slice-read-if1 : (t : ℕ) → find-free-leaf-lts.Need-sha
   find-free-leaf-below t,
   find-free-leaf.Post,
 ) (find-free-leaf-at t) find-free-leaf.Post
-find-free-leaf-shared-slice-read-if1 t c = omega (arith, formed-below (c .before .before .args .words .now) (c .before .before .args .count) (c .before .before .args .at) (c .before .before .pre .1 .1))
+find-free-leaf-shared-slice-read-if1 t c =
+    let s = c .before .before in
+    omega (arith, formed-below (s .args .words .now) (s .args .count) (s .args .at) (s .pre .1 .1))
 
 find-free-leaf-leaf-at-requires : (t : ℕ) → find-free-leaf-lts.Need-leaf-at-requires (
   leaf-at-reads.Asked,
@@ -61,7 +63,9 @@ find-free-leaf-leaf-at-requires : (t : ℕ) → find-free-leaf-lts.Need-leaf-at-
   find-free-leaf-below t,
   find-free-leaf.Post,
 ) (find-free-leaf-at t) find-free-leaf.Post
-find-free-leaf-leaf-at-requires t c κs = omega (arith, formed-below (c .before .before .before .args .words .now) (c .before .before .before .args .count) (c .before .before .before .args .at) (c .before .before .before .pre .1 .1))
+find-free-leaf-leaf-at-requires t c κs =
+    let s = c .before .before .before in
+    omega (arith, formed-below (s .args .words .now) (s .args .count) (s .args .at) (s .pre .1 .1))
 
 find-free-leaf-returns : (t : ℕ) → find-free-leaf-lts.Need-returns (
   leaf-at-reads.Asked,
@@ -79,7 +83,9 @@ find-free-leaf-add-find-free-leaf : (t : ℕ) → find-free-leaf-lts.Need-add-fi
   find-free-leaf-below t,
   find-free-leaf.Post,
 ) (find-free-leaf-at t) find-free-leaf.Post
-find-free-leaf-add-find-free-leaf t c = record { fits = omega (arith, formed-below (c .before .before .before .args .words .now) (c .before .before .before .args .count) (c .before .before .before .args .at) (c .before .before .before .pre .1 .1)) }
+find-free-leaf-add-find-free-leaf t c =
+    let s = c .before .before .before in
+    record { fits = omega (arith, formed-below (s .args .words .now) (s .args .count) (s .args .at) (s .pre .1 .1)) }
 
 find-free-leaf-find-free-leaf-requires : (t : ℕ) → find-free-leaf-lts.Need-find-free-leaf-requires (
   leaf-at-reads.Asked,
@@ -117,10 +123,11 @@ find-free-leaf-find-free-leaf-requires-2 :
     ) (find-free-leaf-at t) find-free-leaf.Post
 find-free-leaf-find-free-leaf-requires-2 t c κs =
     let s = c .before .before .before .before .before .before .before in
+    let if1 = c .before .before .before .before .if1 in
     let f = c .before .before .before .find-free-leaf in
     let below = formed-below (c .before .before .before .before .before .before .before .args .words .now) (c .before .before .before .before .before .before .before .args .count) (c .before .before .before .before .before .before .before .args .at) (c .before .before .before .before .before .before .before .pre .1 .1) in
-    let above = next-above (s .args .words .now) (s .args .count) (s .args .target) (s .args .at) (c .before .before .before .before .if1 .left) (f .result) (f .ensures) _ (c .before .first2 .given .1) (s .pre .1 .1) in
-    (omega arith, (s .pre .1 .0, formed-second (s .args .words .now) (s .args .count) (s .args .target) (s .args .at) (c .before .before .before .before .if1 .left) (f .result) (f .ensures) _ (c .before .first2 .given .1) (s .pre .1 .1)))
+    let above = next-above (s .args .words .now) (s .args .count) (s .args .target) (s .args .at) (if1 .left) (f .result) (f .ensures) _ (c .before .first2 .given .1) (s .pre .1 .1) in
+    (omega arith, (s .pre .1 .0, formed-second (s .args .words .now) (s .args .count) (s .args .target) (s .args .at) (if1 .left) (f .result) (f .ensures) _ (c .before .first2 .given .1) (s .pre .1 .1)))
 
 find-free-leaf-returns-2 : (t : ℕ) → find-free-leaf-lts.Need-returns-2 (
   leaf-at-reads.Asked,

@@ -14,7 +14,9 @@ same-length : tie.Need-same-length
 same-length c = search needs
 
 returns : tie.Need-returns
-returns c = new-became (c .before .before .before .before .before .before .args .words .now) _ (c .before .before .before .before .before .before .args .board) (c .before .before .before .free-node .result) (c .before .before .before .free-node .ensures) (c .before .before .put-node .ensures)
+returns c =
+    let s = c .before .before .before .before .before .before in
+    new-became (s .args .words .now) _ (s .args .board) (c .before .before .before .free-node .result) (c .before .before .before .free-node .ensures) (c .before .before .put-node .ensures)
 
 pub new-guide-spec : {M : Type 1} → statement M
 new-guide-spec = tie.close (tie.spec free-node-requires put-node-requires same-length returns)

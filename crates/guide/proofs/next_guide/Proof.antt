@@ -26,7 +26,8 @@ same-length c = search needs
 returns-3 : tie.Need-returns-3
 returns-3 c =
     let s = c .before .before .before .before .before .before .before .before in
-    split-becomes _ _ _ _ _ _ _ (s .args .merged) (c .before .before .before .before .before .before .if1 .left) _ _ (c .before .before .before .guillotine-insert-subtree .result) (c .before .before .before .guillotine-insert-subtree .ensures) (c .before .before .replace-free-leaf .ensures)
+    let guillotine-insert-subtree = c .before .before .before .guillotine-insert-subtree in
+    split-becomes _ _ _ _ _ _ _ (s .args .merged) (c .before .before .before .before .before .before .if1 .left) _ _ (guillotine-insert-subtree .result) (guillotine-insert-subtree .ensures) (c .before .before .replace-free-leaf .ensures)
 
 pub next-guide-spec : {M : Type 1} → statement M
 next-guide-spec =

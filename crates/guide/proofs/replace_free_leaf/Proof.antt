@@ -15,7 +15,8 @@ enum-known-found c = search needs
 splice-requires : tie.Need-splice-requires
 splice-requires c κs =
     let s = c .before .before .before .before .before .before .before in
-    (found-below (s .args .words .now) (s .args .count) (s .args .target) (s .pre .0) (c .before .before .before .before .find-free-leaf .result) (c .before .before .before .before .find-free-leaf .ensures) _ (c .before .before .found .given .1) (s .pre .2), s .pre .1)
+    let find-free-leaf = c .before .before .before .before .find-free-leaf in
+    (found-below (s .args .words .now) (s .args .count) (s .args .target) (s .pre .0) (find-free-leaf .result) (find-free-leaf .ensures) _ (c .before .before .found .given .1) (s .pre .2), s .pre .1)
 
 enum-known-found-2 : tie.Need-enum-known-found-2
 enum-known-found-2 c = search needs
@@ -26,7 +27,9 @@ same-length c = search needs
 returns : tie.Need-returns
 returns c =
     let s = c .before .before .before .before .before .before .before .before .before .before in
-    replaces-at (s .args .words .now) (s .args .count) (s .args .target) (s .pre .0) (c .before .before .before .before .before .before .before .find-free-leaf .result) (c .before .before .before .before .before .before .before .find-free-leaf .ensures) _ (c .before .before .splice .result) _ (s .args .subtree) (c .before .before .before .before .before .found .given .1) (c .before .before .splice .ensures .0) (c .before .before .splice .ensures .1)
+    let find-free-leaf = c .before .before .before .before .before .before .before .find-free-leaf in
+    let splice = c .before .before .splice in
+    replaces-at (s .args .words .now) (s .args .count) (s .args .target) (s .pre .0) (find-free-leaf .result) (find-free-leaf .ensures) _ (splice .result) _ (s .args .subtree) (c .before .before .before .before .before .found .given .1) (splice .ensures .0) (splice .ensures .1)
 
 same-length-2 : tie.Need-same-length-2
 same-length-2 c = search needs
@@ -34,7 +37,8 @@ same-length-2 c = search needs
 returns-2 : tie.Need-returns-2
 returns-2 c =
     let s = c .before .before .before .before .before .before in
-    replaces-past (s .args .words .now) (s .args .count) (s .args .target) (s .pre .0) (c .before .before .before .find-free-leaf .result) (c .before .before .before .find-free-leaf .ensures) _ (c .before .found2 .given .1) (s .args .subtree)
+    let find-free-leaf = c .before .before .before .find-free-leaf in
+    replaces-past (s .args .words .now) (s .args .count) (s .args .target) (s .pre .0) (find-free-leaf .result) (find-free-leaf .ensures) _ (c .before .found2 .given .1) (s .args .subtree)
 
 pub replace-free-leaf-spec : {M : Type 1} → statement M
 replace-free-leaf-spec =

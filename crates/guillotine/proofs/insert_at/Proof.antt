@@ -23,8 +23,9 @@ right-remainder-requires c κs =
 merges-any-requires : tie.Need-merges-any-requires
 merges-any-requires c κs =
     let s = c .before .before .before .before in
+    let bottom-remainder = c .before .before .bottom-remainder in
     let a = s .args in
-    let small = small-parts (a .kerf-width) (now (a .sheet)) (a .index) (a .free-rect) (a .placed) (a .direction) (s .pre .0) (s .pre .1) (s .pre .2) (c .before .before .bottom-remainder .result) (c .before .right-remainder .result) (c .before .before .bottom-remainder .ensures) (c .before .right-remainder .ensures) in
+    let small = small-parts (a .kerf-width) (now (a .sheet)) (a .index) (a .free-rect) (a .placed) (a .direction) (s .pre .0) (s .pre .1) (s .pre .2) (bottom-remainder .result) (c .before .right-remainder .result) (bottom-remainder .ensures) (c .before .right-remainder .ensures) in
     (s .pre .0, omega (arith, s .pre .1 .inside, length-rects (now (a .sheet))), small .0, small .1)
 
 insert-merging-requires : tie.Need-insert-merging-requires
@@ -48,8 +49,11 @@ same-length-2 c = search needs
 returns-2 : tie.Need-returns-2
 returns-2 c =
     let s = c .before .before .before .before .before .before .before .before .before .before in
+    let bottom-remainder = c .before .before .before .before .before .before .before .before .bottom-remainder in
+    let right-remainder = c .before .before .before .before .before .before .before .right-remainder in
+    let replace = c .before .before .replace in
     let a = s .args in
-    unmerged (a .kerf-width) (now (a .sheet)) (a .index) (a .free-rect) (a .placed) (a .direction) (s .pre .0) (s .pre .1) (s .pre .2) (c .before .before .before .before .before .before .before .before .bottom-remainder .result) (c .before .before .before .before .before .before .before .right-remainder .result) (c .before .before .before .before .before .before .before .before .bottom-remainder .ensures) (c .before .before .before .before .before .before .before .right-remainder .ensures) (c .before .before .replace .last .0) (sym (c .before .before .before .before .if1 .left) ∙ c .before .before .before .before .before .merges-any .ensures) (c .before .before .replace .ensures)
+    unmerged (a .kerf-width) (now (a .sheet)) (a .index) (a .free-rect) (a .placed) (a .direction) (s .pre .0) (s .pre .1) (s .pre .2) (bottom-remainder .result) (right-remainder .result) (bottom-remainder .ensures) (right-remainder .ensures) (replace .last .0) (sym (c .before .before .before .before .if1 .left) ∙ c .before .before .before .before .before .merges-any .ensures) (replace .ensures)
 
 pub insert-at-spec : {M : Type 1} → statement M
 insert-at-spec =

@@ -24,8 +24,9 @@ split-free-rect-in-direction-requires c κs =
 merge-free-rects-requires : tie.Need-merge-free-rects-requires
 merge-free-rects-requires c κs =
     let s = c .before .before .before .before .before in
+    let load = c .before .before .load in
     let a = s .args in
-    scannable (a .kerf-width) (now (a .sheet)) (a .index) (a .free-rect) (a .placed) (a .direction) (s .pre .0) (s .pre .1) (s .pre .2) (c .before .before .load .result) (c .before .before .load .ensures) (c .before .swap-remove .result) (c .before .swap-remove .ensures) (c .split-free-rect-in-direction .result) (c .split-free-rect-in-direction .ensures)
+    scannable (a .kerf-width) (now (a .sheet)) (a .index) (a .free-rect) (a .placed) (a .direction) (s .pre .0) (s .pre .1) (s .pre .2) (load .result) (load .ensures) (c .before .swap-remove .result) (c .before .swap-remove .ensures) (c .split-free-rect-in-direction .result) (c .split-free-rect-in-direction .ensures)
 
 store-requires : tie.Need-store-requires
 store-requires c κs = (c .before .before .merge-free-rects .ensures .room, c .before .before .before .before .before .before .before .before .pre .0 .room)
@@ -36,8 +37,13 @@ same-length c = search needs
 returns : tie.Need-returns
 returns c =
     let s = c .before .before .before .before .before .before .before .before .before .before .before in
+    let load = c .before .before .before .before .before .before .before .before .load in
+    let swap-remove = c .before .before .before .before .before .before .before .swap-remove in
+    let split-free-rect-in-direction = c .before .before .before .before .before .before .split-free-rect-in-direction in
+    let merge-free-rects = c .before .before .before .before .before .merge-free-rects in
+    let store = c .before .before .store in
     let a = s .args in
-    replaced (a .kerf-width) (now (a .sheet)) (a .index) (a .free-rect) (a .placed) (a .direction) (s .pre .0) (s .pre .1) (s .pre .2) (c .before .before .before .before .before .before .before .before .load .result) (c .before .before .before .before .before .before .before .before .load .ensures) (c .before .before .before .before .before .before .before .swap-remove .result) (c .before .before .before .before .before .before .before .swap-remove .ensures) (c .before .before .before .before .before .before .split-free-rect-in-direction .result) (c .before .before .before .before .before .before .split-free-rect-in-direction .ensures) (c .before .before .before .before .before .merge-free-rects .result) (c .before .before .store .last .0) (c .before .before .before .before .before .merge-free-rects .ensures) (c .before .before .store .ensures)
+    replaced (a .kerf-width) (now (a .sheet)) (a .index) (a .free-rect) (a .placed) (a .direction) (s .pre .0) (s .pre .1) (s .pre .2) (load .result) (load .ensures) (swap-remove .result) (swap-remove .ensures) (split-free-rect-in-direction .result) (split-free-rect-in-direction .ensures) (merge-free-rects .result) (store .last .0) (merge-free-rects .ensures) (store .ensures)
 
 pub insert-merging-spec : {M : Type 1} → statement M
 insert-merging-spec =

@@ -41,8 +41,10 @@ merges-requires c κs =
 
 returns : tie.Need-returns Inv-loop μ-loop
 returns c =
-    let a = c .before .before .before .before .before .before .args in
-    sym (touch-hit (now (a .sheet)) (a .kerf-width) (a .rect) (a .to) (c .before .before .before .before .before .before .pre .1) (c .before .before .before .before .loop .index) (c .before .before .before .loop-test .taken) (rw (c .before .before .rect-at .ensures) at (sym (c .before .merges .ensures)) ∙ c .if1 .taken)) ∙ c .before .before .before .before .loop .inv
+    let s = c .before .before .before .before .before .before in
+    let l = c .before .before .before .before .loop in
+    let a = s .args in
+    sym (touch-hit (now (a .sheet)) (a .kerf-width) (a .rect) (a .to) (s .pre .1) (l .index) (c .before .before .before .loop-test .taken) (rw (c .before .before .rect-at .ensures) at (sym (c .before .merges .ensures)) ∙ c .if1 .taken)) ∙ l .inv
 
 add-index : tie.Need-add-index Inv-loop μ-loop
 add-index c = search needs
@@ -52,8 +54,10 @@ loop-less c = search needs
 
 loop-again : tie.Need-loop-again Inv-loop μ-loop
 loop-again c =
-    let a = c .before .before .before .before .before .before .args in
-    sym (touch-miss (now (a .sheet)) (a .kerf-width) (a .rect) (a .to) (c .before .before .before .before .before .before .pre .1) (c .before .before .before .before .loop .index) (c .before .before .before .loop-test .taken) (rw (c .before .before .rect-at .ensures) at (sym (c .before .merges .ensures)) ∙ c .if1 .left)) ∙ c .before .before .before .before .loop .inv
+    let s = c .before .before .before .before .before .before in
+    let l = c .before .before .before .before .loop in
+    let a = s .args in
+    sym (touch-miss (now (a .sheet)) (a .kerf-width) (a .rect) (a .to) (s .pre .1) (l .index) (c .before .before .before .loop-test .taken) (rw (c .before .before .rect-at .ensures) at (sym (c .before .merges .ensures)) ∙ c .if1 .left)) ∙ l .inv
 
 returns-2 : tie.Need-returns-2 Inv-loop μ-loop
 returns-2 c =

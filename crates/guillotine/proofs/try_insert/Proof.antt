@@ -28,9 +28,11 @@ split-direction-requires c κs = search needs
 
 insert-at-requires : tie.Need-insert-at-requires
 insert-at-requires c κs =
-    let a = c .before .before .before .before .before .before .before .before .before .args in
-    let f = rw (c .before .before .before .before .index .given .1) at (c .before .before .before .before .before .before .best-fit .ensures) in
-    (c .before .before .before .before .before .before .before .before .before .pre, found-at (a .kerf-width) (a .stock-pattern) (a .cut) (a .heuristic) (now (a .sheet)) (c .before .before .before .before .index .given .0 .0) (c .before .before .before .before .index .given .0 .1 .0) (c .before .before .before .before .index .given .0 .1 .1 .0) (c .before .before .before .before .index .given .0 .1 .1 .1 .0) f, found-inside (a .kerf-width) (a .stock-pattern) (a .cut) (a .heuristic) (now (a .sheet)) (c .before .before .before .before .index .given .0 .0) (c .before .before .before .before .index .given .0 .1 .0) (c .before .before .before .before .index .given .0 .1 .1 .0) (c .before .before .before .before .index .given .0 .1 .1 .1 .0) f)
+    let s = c .before .before .before .before .before .before .before .before .before in
+    let index = c .before .before .before .before .index in
+    let a = s .args in
+    let f = rw (index .given .1) at (c .before .before .before .before .before .before .best-fit .ensures) in
+    (s .pre, found-at (a .kerf-width) (a .stock-pattern) (a .cut) (a .heuristic) (now (a .sheet)) (index .given .0 .0) (index .given .0 .1 .0) (index .given .0 .1 .1 .0) (index .given .0 .1 .1 .1 .0) f, found-inside (a .kerf-width) (a .stock-pattern) (a .cut) (a .heuristic) (now (a .sheet)) (index .given .0 .0) (index .given .0 .1 .0) (index .given .0 .1 .1 .0) (index .given .0 .1 .1 .1 .0) f)
 
 same-length-2 : tie.Need-same-length-2
 same-length-2 c = search needs
@@ -38,8 +40,10 @@ same-length-2 c = search needs
 returns-2 : tie.Need-returns-2
 returns-2 c =
     let a = c .before .before .before .before .before .before .before .before .before .before .before .before .args in
-    let f = rw (c .before .before .before .before .before .before .before .index .given .1) at (c .before .before .before .before .before .before .before .before .before .best-fit .ensures) in
-    inserts (a .kerf-width) (a .stock-pattern) (a .cut) (a .heuristic) (now (a .sheet)) (c .before .before .before .before .before .before .before .index .given .0 .0) (c .before .before .before .before .before .before .before .index .given .0 .1 .0) (c .before .before .before .before .before .before .before .index .given .0 .1 .1 .0) (c .before .before .before .before .before .before .before .index .given .0 .1 .1 .1 .0) f (c .before .before .insert-at .last .0) (c .before .before .insert-at .result) (rw (c .before .before .before .before .split-direction .ensures) at (c .before .before .insert-at .ensures))
+    let index = c .before .before .before .before .before .before .before .index in
+    let insert-at = c .before .before .insert-at in
+    let f = rw (index .given .1) at (c .before .before .before .before .before .before .before .before .before .best-fit .ensures) in
+    inserts (a .kerf-width) (a .stock-pattern) (a .cut) (a .heuristic) (now (a .sheet)) (index .given .0 .0) (index .given .0 .1 .0) (index .given .0 .1 .1 .0) (index .given .0 .1 .1 .1 .0) f (insert-at .last .0) (insert-at .result) (rw (c .before .before .before .before .split-direction .ensures) at (insert-at .ensures))
 
 pub try-insert-spec : {M : Type 1} → statement M
 try-insert-spec =

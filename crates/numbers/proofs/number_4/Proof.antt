@@ -30,7 +30,9 @@ four-bytes-requires : tie.Need-four-bytes-requires
 four-bytes-requires c κs = search needs
 
 returns : tie.Need-returns
-returns c = c .four-bytes .ensures ∙ number-4 (c .before .before .before .before .before .before .args .file .now) (c .before .before .before .before .before .before .args .at) (c .before .before .before .before .before .before .pre)
+returns c =
+    let s = c .before .before .before .before .before .before in
+    c .four-bytes .ensures ∙ number-4 (s .args .file .now) (s .args .at) (s .pre)
 
 pub number-4-spec : {M : Type 1} → statement M
 number-4-spec =

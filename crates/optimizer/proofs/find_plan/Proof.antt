@@ -37,13 +37,20 @@ same-length-2 c = search needs
 
 returns : tie.Need-returns
 returns c =
-    let s = c .before .before .before .before .before .before .before .before .before .before .before .before .before .before .before .before .before .before in
-    let w = c .before .before .before .before .before .before .before .before .before .winner .ensures in (
+    let c2 = c .before .before in
+    let c5 = c2 .before .before .before in
+    let c9 = c5 .before .before .before .before in
+    let c12 = c9 .before .before .before in
+    let c13 = c12 .before in
+    let c18 = c13 .before .before .before .before .before in
+    let s = c18 in
+    let winner = c9 .winner in
+    let w = winner .ensures in (
       record {
         ends = (
-          candidatePlan (candidateIn (instanceIn (s .args .stock .now) (s .args .cuts .now) (s .args .inst)) (c .before .before .before .before .before .before .before .before .before .winner .result .candidate)),
-          winner-planned (instanceIn (s .args .stock .now) (s .args .cuts .now) (s .args .inst)) _ _ (s .args .effort) (c .before .before .before .before .before .before .before .before .before .before .before .before .before .heuristic-variants .ensures .0) (c .before .before .before .before .before .before .before .before .before .before .before .before .search-numbers .ensures) (s .pre .3) _ (w .0 .is (c .before .before .before .before .before .if1 .taken)),
-          c .before .before .write-plan .ensures .memory,
+          candidatePlan (candidateIn (instanceIn (s .args .stock .now) (s .args .cuts .now) (s .args .inst)) (winner .result .candidate)),
+          winner-planned (instanceIn (s .args .stock .now) (s .args .cuts .now) (s .args .inst)) _ _ (s .args .effort) (c13 .heuristic-variants .ensures .0) (c12 .search-numbers .ensures) (s .pre .3) _ (w .0 .is (c5 .if1 .taken)),
+          c2 .write-plan .ensures .memory,
         );
       },
       behind-cleared _ _ (w .1),

@@ -33,18 +33,24 @@ numbers c = record { «kerf_width» = c .before .before .before .before .before 
 -- the tables show the instance of the file's project
 tables : (c : tie.After-cuts2) → Tables (c .before .before .before .before .before .before .before .before .stock-table .result .words) (c .before .before .before .before .before .before .before .before .before .before .before .before .args .cut-table .words) (numbers c)
 tables c =
-    let wide : length (c .before .before .before .before .before .before .before .before .stock-table .result .words) ≡ 384 = search needs in
-    let long : length (c .before .before .before .before .before .before .before .before .before .before .before .before .args .cut-table .words) ≡ 448 = search needs in
-    shows-tables (c .before .before .before .before .before .before .before .before .before .before .before .before .args .file .now) (c .before .before .before .before .before .before .before .before .stock-table .result .words) (c .before .before .before .before .before .before .before .before .before .before .before .before .args .cut-table .words) (numbers c) (c .before .before .before .before .before .before .before .before .before .before .before .before .pre .0) (λ i. c .before .before .before .before .before .before .before .before .before .before .before .shared-slice-known .given i .fits) (c .before .before .before .before .before .before .before .before .stock-table .ensures) (c .before .before .before .before .before .before .before .before .before .before .before .before .pre .3) (c .before .before .before .before .before .before .before .kerf-width .ensures) wide long
+    let s = c .before .before .before .before .before .before .before .before .before .before .before .before in
+    let stock-table = c .before .before .before .before .before .before .before .before .stock-table in
+    let wide : length (stock-table .result .words) ≡ 384 = search needs in
+    let long : length (s .args .cut-table .words) ≡ 448 = search needs in
+    shows-tables (s .args .file .now) (stock-table .result .words) (s .args .cut-table .words) (numbers c) (s .pre .0) (λ i. c .before .before .before .before .before .before .before .before .before .before .before .shared-slice-known .given i .fits) (stock-table .ensures) (s .pre .3) (c .before .before .before .before .before .before .before .kerf-width .ensures) wide long
 
 shown : (c : tie.After-cuts2) → instanceIn (c .before .before .before .before .before .before .before .before .stock-table .result .words) (c .before .before .before .before .before .before .before .before .before .before .before .before .args .cut-table .words) (numbers c) ≡ expandProject (projectOf (c .before .before .before .before .before .before .before .before .before .before .before .before .args .file .now))
 shown c =
-    let wide : length (c .before .before .before .before .before .before .before .before .stock-table .result .words) ≡ 384 = search needs in
-    let long : length (c .before .before .before .before .before .before .before .before .before .before .before .before .args .cut-table .words) ≡ 448 = search needs in
-    shows-instance (c .before .before .before .before .before .before .before .before .before .before .before .before .args .file .now) (c .before .before .before .before .before .before .before .before .stock-table .result .words) (c .before .before .before .before .before .before .before .before .before .before .before .before .args .cut-table .words) (numbers c) (c .before .before .before .before .before .before .before .before .before .before .before .before .pre .0) (λ i. c .before .before .before .before .before .before .before .before .before .before .before .shared-slice-known .given i .fits) (c .before .before .before .before .before .before .before .before .stock-table .ensures) (c .before .before .before .before .before .before .before .before .before .before .before .before .pre .3) (c .before .before .before .before .before .before .before .kerf-width .ensures) wide long
+    let s = c .before .before .before .before .before .before .before .before .before .before .before .before in
+    let stock-table = c .before .before .before .before .before .before .before .before .stock-table in
+    let wide : length (stock-table .result .words) ≡ 384 = search needs in
+    let long : length (s .args .cut-table .words) ≡ 448 = search needs in
+    shows-instance (s .args .file .now) (stock-table .result .words) (s .args .cut-table .words) (numbers c) (s .pre .0) (λ i. c .before .before .before .before .before .before .before .before .before .before .before .shared-slice-known .given i .fits) (stock-table .ensures) (s .pre .3) (c .before .before .before .before .before .before .before .kerf-width .ensures) wide long
 
 search-plan-requires : tie.Need-search-plan-requires
-search-plan-requires c κs = (tables c, c .before .before .before .before .before .before .before .before .before .before .before .before .pre .1, c .before .before .before .before .before .before .before .before .before .before .before .before .pre .2)
+search-plan-requires c κs =
+    let s = c .before .before .before .before .before .before .before .before .before .before .before .before in
+    (tables c, s .pre .1, s .pre .2)
 
 same-length : tie.Need-same-length
 same-length c = search needs

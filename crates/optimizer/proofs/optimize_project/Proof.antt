@@ -50,10 +50,15 @@ same-length-3 c = search needs
 
 returns-2 : tie.Need-returns-2
 returns-2 c =
-    let s = c .before .before .before .before .before .before .before .before .before .before .before .before .before .before .before .before .before in
-    let e = c .before .before .before .before .before .before .before .before .optimize-cuts .ensures in
-    promise-as (c .before .before .clear .ensures)
-    (end-search (s .args .file .now) (s .args .workspace .now) (s .args .plan .now) (s .pre .1) (s .pre .2) (s .pre .0) (not-empty (expandProject (projectOf (s .args .file .now)) .cuts) (λ z. c .before .before .before .before .before .before .before .before .before .before .before .if1 .left (c .before .before .before .before .before .before .before .before .before .before .before .before .before .cut-table .ensures .counted ∙ z))) _ _ _ (e .0) (e .1))
+    let c2 = c .before .before in
+    let c8 = c2 .before .before .before .before .before .before in
+    let c11 = c8 .before .before .before in
+    let c13 = c11 .before .before in
+    let c17 = c13 .before .before .before .before in
+    let s = c17 in
+    let e = c8 .optimize-cuts .ensures in
+    promise-as (c2 .clear .ensures)
+    (end-search (s .args .file .now) (s .args .workspace .now) (s .args .plan .now) (s .pre .1) (s .pre .2) (s .pre .0) (not-empty (expandProject (projectOf (s .args .file .now)) .cuts) (λ z. c11 .if1 .left (c13 .cut-table .ensures .counted ∙ z))) _ _ _ (e .0) (e .1))
 
 pub optimize-project-spec : {M : Type 1} → statement M
 optimize-project-spec =

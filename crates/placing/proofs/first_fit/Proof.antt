@@ -76,8 +76,9 @@ same-length-2 c = search needs
 returns-2 : tie.Need-returns-2 Inv-loop μ-loop
 returns-2 c =
     let s = c .before .before .before .before .before .before in
+    let l = c .before .before .loop in
     tried-all (s .args .inst .«kerf_width») (record { cut = s .args .cut; heuristic = s .args .h }) (s .args .stock .now) (s .args .boards .now) (s .args .inst .stock) (s .args .sheets) (s .args .free .now)
-    (s .pre .0) (s .pre .1) (s .pre .2) (c .before .before .loop .free) (c .before .before .loop .j) (c .before .before .loop .inv) (c .if1 .left)
+    (s .pre .0) (s .pre .1) (s .pre .2) (l .free) (l .j) (l .inv) (c .if1 .left)
 
 pub first-fit-spec : {M : Type 1} → statement M
 first-fit-spec =

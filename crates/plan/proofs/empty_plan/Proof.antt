@@ -16,7 +16,8 @@ same-length c = search needs
 returns : tie.Need-returns
 returns c =
     let a = c .before .before .before .before .before .before .args in
-    empty-written (a .layout) (a .plan .now) _ (c .before .before .before .before .layout-code .result) (c .before .before .before .before .layout-code .ensures) (c .before .before .put-four .ensures)
+    let layout-code = c .before .before .before .before .layout-code in
+    empty-written (a .layout) (a .plan .now) _ (layout-code .result) (layout-code .ensures) (c .before .before .put-four .ensures)
 
 pub empty-plan-spec : {M : Type 1} → statement M
 empty-plan-spec = tie.close (tie.spec layout-code-requires put-four-requires same-length returns)

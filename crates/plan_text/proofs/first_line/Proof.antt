@@ -38,7 +38,14 @@ same-length : tie.Need-same-length
 same-length c = search needs
 
 returns : tie.Need-returns
-returns c = appended-is (appended-then (c .before .before .before .before .before .before .before .before .before .before .before .before .before .before .before .before .before .before .before .before .before .put-bytes .ensures) (appended-then (c .before .before .before .before .before .before .before .before .before .before .before .before .before .before .before .before .before .put-fields .ensures) (appended-then (c .before .before .before .before .before .before .before .before .before .before .before .before .put-bytes2 .ensures) (appended-then (appended-is (c .before .before .before .before .before .before .before .put-hex .ensures) (ap hexOf (c .before .before .before .before .before .before .before .before .before .double .ensures))) (c .before .before .word-line .ensures))))) (first-line _)
+returns c =
+    let c2 = c .before .before in
+    let c7 = c2 .before .before .before .before .before in
+    let c9 = c7 .before .before in
+    let c12 = c9 .before .before .before in
+    let c17 = c12 .before .before .before .before .before in
+    let c21 = c17 .before .before .before .before in
+    appended-is (appended-then (c21 .put-bytes .ensures) (appended-then (c17 .put-fields .ensures) (appended-then (c12 .put-bytes2 .ensures) (appended-then (appended-is (c7 .put-hex .ensures) (ap hexOf (c9 .double .ensures))) (c2 .word-line .ensures))))) (first-line _)
 
 pub first-line-spec : {M : Type 1} → statement M
 first-line-spec =

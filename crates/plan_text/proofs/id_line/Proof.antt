@@ -28,7 +28,13 @@ same-length : tie.Need-same-length
 same-length c = search needs
 
 returns : tie.Need-returns
-returns c = appended-then (c .before .before .before .before .before .before .before .before .before .before .before .before .before .before .before .put-bytes .ensures) (appended-then (appended-is (c .before .before .before .before .before .before .before .before .before .before .put-field .ensures) (ap field (c .before .before .before .before .before .before .before .before .before .before .before .before .double .ensures))) (appended-then (c .before .before .before .before .before .before .put-fields .ensures) (c .before .before .put-byte .ensures)))
+returns c =
+    let c2 = c .before .before in
+    let c6 = c2 .before .before .before .before in
+    let c10 = c6 .before .before .before .before in
+    let c12 = c10 .before .before in
+    let c15 = c12 .before .before .before in
+    appended-then (c15 .put-bytes .ensures) (appended-then (appended-is (c10 .put-field .ensures) (ap field (c12 .double .ensures))) (appended-then (c6 .put-fields .ensures) (c2 .put-byte .ensures)))
 
 pub id-line-spec : {M : Type 1} → statement M
 id-line-spec =

@@ -52,7 +52,9 @@ same-length-3 : tie.Need-same-length-3
 same-length-3 c = search needs
 
 returns-3 : tie.Need-returns-3
-returns-3 c = appended-is (c .before .before .word-line2 .ensures) (free-line _ _ (λ e. c .before .before .before .before .before .before .if1 .left (c .before .before .before .before .before .before .before .word .ensures ∙ e)) (λ e. c .before .before .before .before .before .if2 .left (c .before .before .before .before .before .before .before .word .ensures ∙ e)))
+returns-3 c =
+    let word = c .before .before .before .before .before .before .before .word in
+    appended-is (c .before .before .word-line2 .ensures) (free-line _ _ (λ e. c .before .before .before .before .before .before .if1 .left (word .ensures ∙ e)) (λ e. c .before .before .before .before .before .if2 .left (word .ensures ∙ e)))
 
 pub node-line-spec : {M : Type 1} → statement M
 node-line-spec =

@@ -54,21 +54,27 @@ same-length c = search needs
 
 returns : tie.Need-returns
 unfolding rowAt
-returns c = appended-is (c .before .before .id-line .ensures) (piece-line _ _ ∙ ap (λ p. rowAt p (c .before .before .before .before .before .before .before .before .before .args .body .now) (c .before .before .before .before .before .before .before .before .before .args .start) (c .before .before .before .before .before .before .before .before .before .args .k)) (sym (c .before .before .before .before .before .enum-told .given .1)))
+returns c =
+    let s = c .before .before .before .before .before .before .before .before .before in
+    appended-is (c .before .before .id-line .ensures) (piece-line _ _ ∙ ap (λ p. rowAt p (s .args .body .now) (s .args .start) (s .args .k)) (sym (c .before .before .before .before .before .enum-told .given .1)))
 
 same-length-2 : tie.Need-same-length-2
 same-length-2 c = search needs
 
 returns-2 : tie.Need-returns-2
 unfolding rowAt
-returns-2 c = appended-is (c .before .before .word-line .ensures) (waste-line _ _ ∙ ap (λ p. rowAt p (c .before .before .before .before .before .before .before .before .before .args .body .now) (c .before .before .before .before .before .before .before .before .before .args .start) (c .before .before .before .before .before .before .before .before .before .args .k)) (sym (c .before .before .before .before .before .enum-told2 .given .1)))
+returns-2 c =
+    let s = c .before .before .before .before .before .before .before .before .before in
+    appended-is (c .before .before .word-line .ensures) (waste-line _ _ ∙ ap (λ p. rowAt p (s .args .body .now) (s .args .start) (s .args .k)) (sym (c .before .before .before .before .before .enum-told2 .given .1)))
 
 same-length-3 : tie.Need-same-length-3
 same-length-3 c = search needs
 
 returns-3 : tie.Need-returns-3
 unfolding rowAt
-returns-3 c = appended-is (c .before .before .node-line .ensures) (ap (λ p. rowAt p (c .before .before .before .before .before .before .before .before .args .body .now) (c .before .before .before .before .before .before .before .before .args .start) (c .before .before .before .before .before .before .before .before .args .k)) (sym (c .before .before .before .before .enum-told3 .given .1)))
+returns-3 c =
+    let s = c .before .before .before .before .before .before .before .before in
+    appended-is (c .before .before .node-line .ensures) (ap (λ p. rowAt p (s .args .body .now) (s .args .start) (s .args .k)) (sym (c .before .before .before .before .enum-told3 .given .1)))
 
 pub put-row-spec : {M : Type 1} → statement M
 put-row-spec =

@@ -35,7 +35,9 @@ loop-less : tie.Need-loop-less Inv-loop μ-loop
 loop-less c = search needs
 
 loop-again : tie.Need-loop-again Inv-loop μ-loop
-loop-again c = (search needs, omega (arith, c .before .before .put-row .ensures .reached, c .before .before .put-row .ensures .size), appended-next (rowAt _ _ _) _ (c .before .before .before .before .before .before .loop .inv .2) (c .before .before .put-row .ensures))
+loop-again c =
+    let put-row = c .before .before .put-row in
+    (search needs, omega (arith, put-row .ensures .reached, put-row .ensures .size), appended-next (rowAt _ _ _) _ (c .before .before .before .before .before .before .loop .inv .2) (put-row .ensures))
 
 same-length-2 : tie.Need-same-length-2 Inv-loop μ-loop
 same-length-2 c = c .before .loop .inv .2 .size

@@ -63,16 +63,34 @@ add-put-rows-3 c = search needs
 
 put-rows-requires-3 : tie.Need-put-rows-requires-3
 put-rows-requires-3 c κs =
-    let line = c .before .before .before .word-line .ensures in
-    omega (arith, line .reached, line .size, c .before .before .before .before .before .before .before .before .before .before .before .before .before .before .before .before .before .before .before .before .before .before .before .count .ensures, c .before .before .before .before .before .before .before .before .before .before .before .before .before .before .before .before .before .before .before .before .before .before .before .before .word .ok, c .before .before .before .before .before .before .before .before .before .before .before .before .before .before .before .before .before .before .before .before .before .count2 .ensures, c .before .before .before .before .before .before .before .before .before .before .before .before .before .before .before .before .before .before .before .before .before .before .word2 .ok, c .before .before .before .before .before .before .before .before .before .before .before .before .before .before .before .before .before .before .before .count3 .ensures, c .before .before .before .before .before .before .before .before .before .before .before .before .before .before .before .before .before .before .before .before .word3 .ok)
+    let c3 = c .before .before .before in
+    let c19 = c3 .before .before .before .before .before .before .before .before .before .before .before .before .before .before .before .before in
+    let c20 = c19 .before in
+    let c21 = c20 .before in
+    let c22 = c21 .before in
+    let c23 = c22 .before in
+    let c24 = c23 .before in
+    let line = c3 .word-line .ensures in
+    omega (arith, line .reached, line .size, c23 .count .ensures, c24 .word .ok, c21 .count2 .ensures, c22 .word2 .ok, c19 .count3 .ensures, c20 .word3 .ok)
 
 same-length : tie.Need-same-length
 same-length c = search needs
 
 returns : tie.Need-returns
 returns c =
-    appended-is (appended-then (c .before .before .before .before .before .before .before .before .before .before .before .before .before .before .before .before .before .before .before .id-line .ensures) (appended-then (c .before .before .before .before .before .before .before .before .before .before .before .before .before .before .before .put-rows .ensures) (appended-then (c .before .before .before .before .before .before .before .before .before .before .before .put-rows2 .ensures) (appended-then (c .before .before .before .before .before .before .word-line .ensures) (c .before .before .put-rows3 .ensures)))))
-    (sheet-text _ _ _ _ (c .before .before .before .before .before .before .before .before .before .before .before .before .before .before .before .before .before .before .before .before .before .before .before .before .before .before .count .ensures ∙ c .before .before .before .before .before .before .before .before .before .before .before .before .before .before .before .before .before .before .before .before .before .before .before .before .before .before .before .word .ensures) (c .before .before .before .before .before .before .before .before .before .before .before .before .before .before .before .before .before .before .before .before .before .before .before .before .count2 .ensures ∙ c .before .before .before .before .before .before .before .before .before .before .before .before .before .before .before .before .before .before .before .before .before .before .before .before .before .word2 .ensures) (c .before .before .before .before .before .before .before .before .before .before .before .before .before .before .before .before .before .before .before .before .before .before .count3 .ensures ∙ c .before .before .before .before .before .before .before .before .before .before .before .before .before .before .before .before .before .before .before .before .before .before .before .word3 .ensures))
+    let c2 = c .before .before in
+    let c6 = c2 .before .before .before .before in
+    let c11 = c6 .before .before .before .before .before in
+    let c15 = c11 .before .before .before .before in
+    let c19 = c15 .before .before .before .before in
+    let c22 = c19 .before .before .before in
+    let c23 = c22 .before in
+    let c24 = c23 .before in
+    let c25 = c24 .before in
+    let c26 = c25 .before in
+    let c27 = c26 .before in
+    appended-is (appended-then (c19 .id-line .ensures) (appended-then (c15 .put-rows .ensures) (appended-then (c11 .put-rows2 .ensures) (appended-then (c6 .word-line .ensures) (c2 .put-rows3 .ensures)))))
+    (sheet-text _ _ _ _ (c26 .count .ensures ∙ c27 .word .ensures) (c24 .count2 .ensures ∙ c25 .word2 .ensures) (c22 .count3 .ensures ∙ c23 .word3 .ensures))
 
 pub put-sheet-spec : {M : Type 1} → statement M
 put-sheet-spec =

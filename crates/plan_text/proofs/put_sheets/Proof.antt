@@ -27,7 +27,9 @@ same-length : tie.Need-same-length Inv-loop μ-loop
 same-length c = c .before .before .loop .inv .2 .size
 
 returns : tie.Need-returns Inv-loop μ-loop
-returns c = appended-is (appended-stop (sheetAt _) _ (c .before .before .loop .inv .2) _ (c .before .before .loop .inv .0) (c .if1 .taken)) (sheets-text _ _ (c .before .before .before .word .ensures))
+returns c =
+    let l = c .before .before .loop in
+    appended-is (appended-stop (sheetAt _) _ (l .inv .2) _ (l .inv .0) (c .if1 .taken)) (sheets-text _ _ (c .before .before .before .word .ensures))
 
 sheet-words-requires : tie.Need-sheet-words-requires Inv-loop μ-loop
 sheet-words-requires c κs = search needs

@@ -37,12 +37,13 @@ slice-aggregate-place-cuts c =
 place-cuts-requires : tie.Need-place-cuts-requires
 place-cuts-requires c κs =
     let s = c .before .before .before .before .before .before .before .before in
+    let new-candidate = c .before .before .new-candidate in
     let inst : ProblemInstance = instanceIn (s .args .stock .now) (s .args .cuts .now) (s .args .inst) in
     let order : List ℕ = s .args .seed .«cut_order» in
     let count : length (inst .cuts) ≡ s .args .inst .cuts = cut-count (s .args .stock .now) (s .args .cuts .now) (s .args .inst) in (
       s .pre .0,
-      subst₂ (λ (l : List ℕ) (k : Words). Stands inst l k) (ap (λ (n : ℕ). take n order) count) (sym (c .before .before .new-candidate .ensures)) (new-stands inst (s .pre .0 .ranged) (s .pre .0 .admitted) (placesOf inst order) (s .pre .1)),
-      subst (Shown inst (s .args .free .now)) (sym (c .before .before .new-candidate .ensures)) (new-shown inst (s .args .free .now) (s .pre .2)),
+      subst₂ (λ (l : List ℕ) (k : Words). Stands inst l k) (ap (λ (n : ℕ). take n order) count) (sym (new-candidate .ensures)) (new-stands inst (s .pre .0 .ranged) (s .pre .0 .admitted) (placesOf inst order) (s .pre .1)),
+      subst (Shown inst (s .args .free .now)) (sym (new-candidate .ensures)) (new-shown inst (s .args .free .now) (s .pre .2)),
     )
 
 same-length : tie.Need-same-length

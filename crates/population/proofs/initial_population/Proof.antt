@@ -57,9 +57,10 @@ store-at-requires : tie.Need-store-at-requires Inv-loop μ-loop
 store-at-requires c κs =
     let s = c .before .before .before .before .before .before .before .before .before .before .before .before .before .before in
     let l = c .before .before .before .before .before .before .before .loop in
+    let candidate-from-seed = c .before .before .before .candidate-from-seed in
     let inst : ProblemInstance = instanceIn (s .args .stock .now) (s .args .cuts .now) (s .args .inst) in
     let ranged = s .pre .0 .ranged in
-    (omega (arith, l .inv .1, c .before .before .before .before .before .before .loop-test .taken, c .before .before .before .before .before .before .before .before .seed-count .ensures .1, s .pre .3), storable inst (c .before .before .before .candidate-from-seed .result) (c .before .before .before .candidate-from-seed .ensures .0 .stands) (ranged .fewBoards) (ranged .fewPanels))
+    (omega (arith, l .inv .1, c .before .before .before .before .before .before .loop-test .taken, c .before .before .before .before .before .before .before .before .seed-count .ensures .1, s .pre .3), storable inst (candidate-from-seed .result) (candidate-from-seed .ensures .0 .stands) (ranged .fewBoards) (ranged .fewPanels))
 
 add-k : tie.Need-add-k Inv-loop μ-loop
 add-k c = omega (arith, c .before .before .before .before .before .before .before .before .before .loop-test .taken, c .before .before .before .before .before .before .before .before .before .before .before .seed-count .ensures .1)
@@ -71,19 +72,21 @@ loop-again : tie.Need-loop-again Inv-loop μ-loop
 loop-again c =
     let s = c .before .before .before .before .before .before .before .before .before .before .before .before .before .before .before .before .before in
     let l = c .before .before .before .before .before .before .before .before .before .before .loop in
+    let initial-candidate-seed = c .before .before .before .before .before .before .before .before .initial-candidate-seed in
+    let store-at = c .before .before .store-at in
     let stock : List ℕ = s .args .stock .now in
     let cuts : List ℕ = s .args .cuts .now in
     let inst : ProblemInstance = instanceIn stock cuts (s .args .inst) in
     let count = c .before .before .before .before .before .before .before .before .before .before .before .seed-count in
     let sorted = c .before .before .before .before .before .before .before .before .before .before .before .before .sorted-cut-order in
     let here : l .k < count .result = c .before .before .before .before .before .before .before .before .before .loop-test .taken in
-    let seed = c .before .before .before .before .before .before .before .before .initial-candidate-seed .ensures inst (cut-count stock cuts (s .args .inst)) (in-order stock cuts (s .args .inst) (sorted .result) _ (sorted .ensures .0) (sorted .ensures .1)) in
+    let seed = initial-candidate-seed .ensures inst (cut-count stock cuts (s .args .inst)) (in-order stock cuts (s .args .inst) (sorted .result) _ (sorted .ensures .0) (sorted .ensures .1)) in
     let made = c .before .before .before .before .before .before .candidate-from-seed in (
       search needs,
-      c .before .before .store-at .kept .0 ∙ l .inv .1,
+      store-at .kept .0 ∙ l .inv .1,
       made .kept .0 ∙ l .inv .2,
-      stored-step (rowsOf (s .args .rows)) inst (numbersOf (s .args .n)) (s .args .ws .now) (l .ws) (c .before .before .store-at .last .0) (l .k) (c .before .before .before .before .before .before .before .before .initial-candidate-seed .result) (made .result)
-          (omega (arith, here, count .ensures .0 (inst .cuts))) (omega (arith, here, count .ensures .1)) (omega (arith, l .inv .1, s .pre .3)) (s .pre .0 .ranged .fewPanels) seed (made .ensures .0) (c .before .before .store-at .ensures) (l .inv .3),
+      stored-step (rowsOf (s .args .rows)) inst (numbersOf (s .args .n)) (s .args .ws .now) (l .ws) (store-at .last .0) (l .k) (initial-candidate-seed .result) (made .result)
+          (omega (arith, here, count .ensures .0 (inst .cuts))) (omega (arith, here, count .ensures .1)) (omega (arith, l .inv .1, s .pre .3)) (s .pre .0 .ranged .fewPanels) seed (made .ensures .0) (store-at .ensures) (l .inv .3),
       made .ensures .1 ∙ l .inv .4,
     )
 

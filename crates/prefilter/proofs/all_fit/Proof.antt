@@ -31,12 +31,15 @@ fits-any-requires c κs = search needs
 -- whether cut i fits a board, as the call said
 says : (c : tie.After-fits-any Inv-loop μ-loop)
     → c .fits-any .result ≡ fitsAny (c .before .before .before .before .before .before .args .stock .now) (c .before .before .before .before .before .before .args .inst .stock) (cutAt (c .before .before .before .before .before .before .args .cuts .now) (c .before .before .before .loop .i))
-says c = c .fits-any .ensures ∙ ap (fitsAny (c .before .before .before .before .before .before .args .stock .now) (c .before .before .before .before .before .before .args .inst .stock)) (c .before .cut-at .ensures)
+says c =
+    let s = c .before .before .before .before .before .before in
+    c .fits-any .ensures ∙ ap (fitsAny (s .args .stock .now) (s .args .inst .stock)) (c .before .cut-at .ensures)
 
 returns : tie.Need-returns Inv-loop μ-loop
 returns c =
     let s = c .before .before .before .before .before .before .before in
-    sym (all-miss (cutAt (s .args .cuts .now)) (fitsAny (s .args .stock .now) (s .args .inst .stock)) (c .before .before .before .before .loop .i) (s .args .inst .cuts) (c .before .before .before .loop-test .taken) (sym (says (c .before)) ∙ not-true (c .before .fits-any .result) (c .if1 .taken))) ∙ c .before .before .before .before .loop .inv .1
+    let l = c .before .before .before .before .loop in
+    sym (all-miss (cutAt (s .args .cuts .now)) (fitsAny (s .args .stock .now) (s .args .inst .stock)) (l .i) (s .args .inst .cuts) (c .before .before .before .loop-test .taken) (sym (says (c .before)) ∙ not-true (c .before .fits-any .result) (c .if1 .taken))) ∙ l .inv .1
 
 add-i : tie.Need-add-i Inv-loop μ-loop
 add-i c = search needs
@@ -46,9 +49,10 @@ loop-less c = search needs
 
 loop-again : tie.Need-loop-again Inv-loop μ-loop
 loop-again c =
+    let l = c .before .before .before .before .loop in
     let s = c .before .before .before .before .before .before .before in (
       search needs,
-      sym (all-hit (cutAt (s .args .cuts .now)) (fitsAny (s .args .stock .now) (s .args .inst .stock)) (c .before .before .before .before .loop .i) (s .args .inst .cuts) (c .before .before .before .loop-test .taken) (sym (says (c .before)) ∙ not-false (c .before .fits-any .result) (c .if1 .left))) ∙ c .before .before .before .before .loop .inv .1,
+      sym (all-hit (cutAt (s .args .cuts .now)) (fitsAny (s .args .stock .now) (s .args .inst .stock)) (l .i) (s .args .inst .cuts) (c .before .before .before .loop-test .taken) (sym (says (c .before)) ∙ not-false (c .before .fits-any .result) (c .if1 .left))) ∙ l .inv .1,
     )
 
 returns-2 : tie.Need-returns-2 Inv-loop μ-loop

@@ -34,7 +34,8 @@ says c = c .cut-fits-stock .ensures ∙ ap (cutFitsStock (c .before .before .bef
 returns : tie.Need-returns Inv-loop μ-loop
 returns c =
     let s = c .before .before .before .before .before .before in
-    sym (any-hit (stockAt (s .args .stock .now)) (cutFitsStock (s .args .cut)) (c .before .before .before .before .loop .i) (s .args .boards) (c .before .before .before .loop-test .taken) (sym (says (c .before)) ∙ c .if1 .taken)) ∙ c .before .before .before .before .loop .inv .1
+    let l = c .before .before .before .before .loop in
+    sym (any-hit (stockAt (s .args .stock .now)) (cutFitsStock (s .args .cut)) (l .i) (s .args .boards) (c .before .before .before .loop-test .taken) (sym (says (c .before)) ∙ c .if1 .taken)) ∙ l .inv .1
 
 add-i : tie.Need-add-i Inv-loop μ-loop
 add-i c = search needs
@@ -44,9 +45,10 @@ loop-less c = search needs
 
 loop-again : tie.Need-loop-again Inv-loop μ-loop
 loop-again c =
+    let l = c .before .before .before .before .loop in
     let s = c .before .before .before .before .before .before in (
       search needs,
-      sym (any-miss (stockAt (s .args .stock .now)) (cutFitsStock (s .args .cut)) (c .before .before .before .before .loop .i) (s .args .boards) (c .before .before .before .loop-test .taken) (sym (says (c .before)) ∙ c .if1 .left)) ∙ c .before .before .before .before .loop .inv .1,
+      sym (any-miss (stockAt (s .args .stock .now)) (cutFitsStock (s .args .cut)) (l .i) (s .args .boards) (c .before .before .before .loop-test .taken) (sym (says (c .before)) ∙ c .if1 .left)) ∙ l .inv .1,
     )
 
 returns-2 : tie.Need-returns-2 Inv-loop μ-loop

@@ -19,7 +19,9 @@ abbrev μ-loop : tie.MeasureT-loop
 
 -- the five words of the row are there
 inside : (c : tie.In-loop Inv-loop μ-loop) → c .before .before .before .args .stride * c .before .loop .i + 5 ≤ length (c .before .before .before .args .table .now)
-inside c = row-inside (c .before .before .before .args .stride) (c .before .before .before .args .count) (c .before .loop .i) (length (c .before .before .before .args .table .now)) (c .loop-test .taken) (c .before .before .before .pre .0) (c .before .before .before .pre .2)
+inside c =
+    let s = c .before .before .before in
+    row-inside (s .args .stride) (s .args .count) (c .before .loop .i) (length (s .args .table .now)) (c .loop-test .taken) (s .pre .0) (s .pre .2)
 
 loop-holds : tie.Need-loop-holds Inv-loop μ-loop
 loop-holds c = (search needs, omega (arith, ap (λ (l : List ℕ). sum (map (rowArea (c .before .args .stride) (c .before .args .table .now)) l)) (left-all (c .before .args .count))))
@@ -69,7 +71,8 @@ step : (c : tie.After-area Inv-loop μ-loop)
 unfolding rowArea
 step c =
     let s = c .before .before .before .before .before .before in
-    omega (arith, c .area .ensures, sum-next (rowArea (s .args .stride) (s .args .table .now)) (c .before .before .before .before .loop .i) (s .args .count) (c .before .before .before .loop-test .taken), c .before .before .before .before .loop .inv .1)
+    let l = c .before .before .before .before .loop in
+    omega (arith, c .area .ensures, sum-next (rowArea (s .args .stride) (s .args .table .now)) (l .i) (s .args .count) (c .before .before .before .loop-test .taken), l .inv .1)
 
 add-total : tie.Need-add-total Inv-loop μ-loop
 add-total c =

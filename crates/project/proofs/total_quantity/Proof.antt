@@ -43,14 +43,17 @@ loop-less : tie.Need-loop-less Inv-loop μ-loop
 loop-less c = search needs
 
 loop-again : tie.Need-loop-again Inv-loop μ-loop
-loop-again c = (
-  search needs,
-  search needs,
-  omega (arith, total-next (c .before .before .before .before .args .file .now) (c .before .before .before .before .args .base) (c .before .before .before .before .args .n) (c .before .before .loop .i) (c .number-4 .result) (c .before .loop-test .taken) (c .number-4 .ensures)),
-)
+loop-again c =
+    let s = c .before .before .before .before in (
+      search needs,
+      search needs,
+      omega (arith, total-next (s .args .file .now) (s .args .base) (s .args .n) (c .before .before .loop .i) (c .number-4 .result) (c .before .loop-test .taken) (c .number-4 .ensures)),
+    )
 
 returns : tie.Need-returns Inv-loop μ-loop
-returns c = omega (arith, total-none (c .before .before .before .args .file .now) (c .before .before .before .args .base) (c .before .before .before .args .n) (c .before .loop .i) (c .loop-test .left))
+returns c =
+    let s = c .before .before .before in
+    omega (arith, total-none (s .args .file .now) (s .args .base) (s .args .n) (c .before .loop .i) (c .loop-test .left))
 
 pub total-quantity-spec : {M : Type 1} → statement M
 total-quantity-spec =

@@ -22,7 +22,9 @@ returns c = taken-got _ _ _ ∙ ap (λ k. flagOf k (drop (c .before .before .bef
 
 returns-2 : tie.Need-returns-2
 unfolding flagOf
-returns-2 c = c .turn-at .ensures ∙ ap (λ k. flagOf k (drop (c .before .before .before .before .args .at) (c .before .before .before .before .args .line .now))) (sym (c .before .enum-told2 .given .1))
+returns-2 c =
+    let s = c .before .before .before .before in
+    c .turn-at .ensures ∙ ap (λ k. flagOf k (drop (s .args .at) (s .args .line .now))) (sym (c .before .enum-told2 .given .1))
 
 pub flag-at-spec : {M : Type 1} → statement M
 flag-at-spec = tie.close (tie.spec enum-told enum-told-2 turn-at-requires returns returns-2)

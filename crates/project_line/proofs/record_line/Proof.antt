@@ -43,7 +43,13 @@ enum-told-3 c = search needs
 
 returns-3 : tie.Need-returns-3
 unfolding recordLine
-returns-3 c = sym (need-some _ _ _ _ _ (taken-some _ _ _ (c .before .before .before .before .before .before .before .before .before .before .number-at .ensures) _ _ (c .before .before .before .before .before .before .before .before .id .given .1)) ∙ need-some _ _ _ _ _ (taken-some _ _ _ (c .before .before .before .before .before .before .number-at2 .ensures) _ _ (c .before .before .before .before .width .given .1)) ∙ need-none _ _ _ (taken-none _ _ _ (c .before .before .number-at3 .ensures) (c .enum-told3 .given .1)))
+returns-3 c =
+    let c2 = c .before .before in
+    let c4 = c2 .before .before in
+    let c6 = c4 .before .before in
+    let c8 = c6 .before .before in
+    let c10 = c8 .before .before in
+    sym (need-some _ _ _ _ _ (taken-some _ _ _ (c10 .number-at .ensures) _ _ (c8 .id .given .1)) ∙ need-some _ _ _ _ _ (taken-some _ _ _ (c6 .number-at2 .ensures) _ _ (c4 .width .given .1)) ∙ need-none _ _ _ (taken-none _ _ _ (c2 .number-at3 .ensures) (c .enum-told3 .given .1)))
 
 quantity-at-requires : tie.Need-quantity-at-requires
 quantity-at-requires c κs = search needs
@@ -56,7 +62,15 @@ enum-told-4 c = search needs
 
 returns-4 : tie.Need-returns-4
 unfolding recordLine
-returns-4 c = sym (need-some _ _ _ _ _ (taken-some _ _ _ (c .before .before .before .before .before .before .before .before .before .before .before .before .before .before .number-at .ensures) _ _ (c .before .before .before .before .before .before .before .before .before .before .before .before .id .given .1)) ∙ need-some _ _ _ _ _ (taken-some _ _ _ (c .before .before .before .before .before .before .before .before .before .before .number-at2 .ensures) _ _ (c .before .before .before .before .before .before .before .before .width .given .1)) ∙ need-some _ _ _ _ _ (taken-some _ _ _ (c .before .before .before .before .before .before .number-at3 .ensures) _ _ (c .before .before .before .before .length .given .1)) ∙ need-none _ _ _ (taken-none _ _ _ (c .before .before .quantity-at .ensures) (c .enum-told4 .given .1)))
+returns-4 c =
+    let c2 = c .before .before in
+    let c4 = c2 .before .before in
+    let c6 = c4 .before .before in
+    let c8 = c6 .before .before in
+    let c10 = c8 .before .before in
+    let c12 = c10 .before .before in
+    let c14 = c12 .before .before in
+    sym (need-some _ _ _ _ _ (taken-some _ _ _ (c14 .number-at .ensures) _ _ (c12 .id .given .1)) ∙ need-some _ _ _ _ _ (taken-some _ _ _ (c10 .number-at2 .ensures) _ _ (c8 .width .given .1)) ∙ need-some _ _ _ _ _ (taken-some _ _ _ (c6 .number-at3 .ensures) _ _ (c4 .length .given .1)) ∙ need-none _ _ _ (taken-none _ _ _ (c2 .quantity-at .ensures) (c .enum-told4 .given .1)))
 
 grain-at-requires : tie.Need-grain-at-requires
 grain-at-requires c κs = search needs
@@ -69,7 +83,17 @@ enum-told-5 c = search needs
 
 returns-5 : tie.Need-returns-5
 unfolding recordLine
-returns-5 c = sym (need-some _ _ _ _ _ (taken-some _ _ _ (c .before .before .before .before .before .before .before .before .before .before .before .before .before .before .before .before .before .before .number-at .ensures) _ _ (c .before .before .before .before .before .before .before .before .before .before .before .before .before .before .before .before .id .given .1)) ∙ need-some _ _ _ _ _ (taken-some _ _ _ (c .before .before .before .before .before .before .before .before .before .before .before .before .before .before .number-at2 .ensures) _ _ (c .before .before .before .before .before .before .before .before .before .before .before .before .width .given .1)) ∙ need-some _ _ _ _ _ (taken-some _ _ _ (c .before .before .before .before .before .before .before .before .before .before .number-at3 .ensures) _ _ (c .before .before .before .before .before .before .before .before .length .given .1)) ∙ need-some _ _ _ _ _ (taken-some _ _ _ (c .before .before .before .before .before .before .quantity-at .ensures) _ _ (c .before .before .before .before .quantity .given .1)) ∙ need-none _ _ _ (taken-none _ _ _ (c .before .before .grain-at .ensures) (c .enum-told5 .given .1)))
+returns-5 c =
+    let c2 = c .before .before in
+    let c4 = c2 .before .before in
+    let c6 = c4 .before .before in
+    let c8 = c6 .before .before in
+    let c10 = c8 .before .before in
+    let c12 = c10 .before .before in
+    let c14 = c12 .before .before in
+    let c16 = c14 .before .before in
+    let c18 = c16 .before .before in
+    sym (need-some _ _ _ _ _ (taken-some _ _ _ (c18 .number-at .ensures) _ _ (c16 .id .given .1)) ∙ need-some _ _ _ _ _ (taken-some _ _ _ (c14 .number-at2 .ensures) _ _ (c12 .width .given .1)) ∙ need-some _ _ _ _ _ (taken-some _ _ _ (c10 .number-at3 .ensures) _ _ (c8 .length .given .1)) ∙ need-some _ _ _ _ _ (taken-some _ _ _ (c6 .quantity-at .ensures) _ _ (c4 .quantity .given .1)) ∙ need-none _ _ _ (taken-none _ _ _ (c2 .grain-at .ensures) (c .enum-told5 .given .1)))
 
 flag-at-requires : tie.Need-flag-at-requires
 flag-at-requires c κs = search needs
@@ -82,14 +106,39 @@ enum-told-6 c = search needs
 
 returns-6 : tie.Need-returns-6
 unfolding recordLine
-returns-6 c = sym (need-some _ _ _ _ _ (taken-some _ _ _ (c .before .before .before .before .before .before .before .before .before .before .before .before .before .before .before .before .before .before .before .before .before .before .number-at .ensures) _ _ (c .before .before .before .before .before .before .before .before .before .before .before .before .before .before .before .before .before .before .before .before .id .given .1)) ∙ need-some _ _ _ _ _ (taken-some _ _ _ (c .before .before .before .before .before .before .before .before .before .before .before .before .before .before .before .before .before .before .number-at2 .ensures) _ _ (c .before .before .before .before .before .before .before .before .before .before .before .before .before .before .before .before .width .given .1)) ∙ need-some _ _ _ _ _ (taken-some _ _ _ (c .before .before .before .before .before .before .before .before .before .before .before .before .before .before .number-at3 .ensures) _ _ (c .before .before .before .before .before .before .before .before .before .before .before .before .length .given .1)) ∙ need-some _ _ _ _ _ (taken-some _ _ _ (c .before .before .before .before .before .before .before .before .before .before .quantity-at .ensures) _ _ (c .before .before .before .before .before .before .before .before .quantity .given .1)) ∙ need-some _ _ _ _ _ (taken-some _ _ _ (c .before .before .before .before .before .before .grain-at .ensures) _ _ (c .before .before .before .before .pattern .given .1)) ∙ need-none _ _ _ (taken-none _ _ _ (c .before .before .flag-at .ensures) (c .enum-told6 .given .1)))
+returns-6 c =
+    let c2 = c .before .before in
+    let c4 = c2 .before .before in
+    let c6 = c4 .before .before in
+    let c8 = c6 .before .before in
+    let c10 = c8 .before .before in
+    let c12 = c10 .before .before in
+    let c14 = c12 .before .before in
+    let c16 = c14 .before .before in
+    let c18 = c16 .before .before in
+    let c20 = c18 .before .before in
+    let c22 = c20 .before .before in
+    sym (need-some _ _ _ _ _ (taken-some _ _ _ (c22 .number-at .ensures) _ _ (c20 .id .given .1)) ∙ need-some _ _ _ _ _ (taken-some _ _ _ (c18 .number-at2 .ensures) _ _ (c16 .width .given .1)) ∙ need-some _ _ _ _ _ (taken-some _ _ _ (c14 .number-at3 .ensures) _ _ (c12 .length .given .1)) ∙ need-some _ _ _ _ _ (taken-some _ _ _ (c10 .quantity-at .ensures) _ _ (c8 .quantity .given .1)) ∙ need-some _ _ _ _ _ (taken-some _ _ _ (c6 .grain-at .ensures) _ _ (c4 .pattern .given .1)) ∙ need-none _ _ _ (taken-none _ _ _ (c2 .flag-at .ensures) (c .enum-told6 .given .1)))
 
 end-line-requires : tie.Need-end-line-requires
 end-line-requires c κs = search needs
 
 returns-7 : tie.Need-returns-7
 unfolding recordLine
-returns-7 c = c .end-line .ensures ∙ sym (need-some _ _ _ _ _ (taken-some _ _ _ (c .before .before .before .before .before .before .before .before .before .before .before .before .before .before .before .before .before .before .before .before .before .before .before .before .number-at .ensures) _ _ (c .before .before .before .before .before .before .before .before .before .before .before .before .before .before .before .before .before .before .before .before .before .before .id .given .1)) ∙ need-some _ _ _ _ _ (taken-some _ _ _ (c .before .before .before .before .before .before .before .before .before .before .before .before .before .before .before .before .before .before .before .before .number-at2 .ensures) _ _ (c .before .before .before .before .before .before .before .before .before .before .before .before .before .before .before .before .before .before .width .given .1)) ∙ need-some _ _ _ _ _ (taken-some _ _ _ (c .before .before .before .before .before .before .before .before .before .before .before .before .before .before .before .before .number-at3 .ensures) _ _ (c .before .before .before .before .before .before .before .before .before .before .before .before .before .before .length .given .1)) ∙ need-some _ _ _ _ _ (taken-some _ _ _ (c .before .before .before .before .before .before .before .before .before .before .before .before .quantity-at .ensures) _ _ (c .before .before .before .before .before .before .before .before .before .before .quantity .given .1)) ∙ need-some _ _ _ _ _ (taken-some _ _ _ (c .before .before .before .before .before .before .before .before .grain-at .ensures) _ _ (c .before .before .before .before .before .before .pattern .given .1)) ∙ need-some _ _ _ _ _ (taken-some _ _ _ (c .before .before .before .before .flag-at .ensures) _ _ (c .before .before .flag .given .1)))
+returns-7 c =
+    let c2 = c .before .before in
+    let c4 = c2 .before .before in
+    let c6 = c4 .before .before in
+    let c8 = c6 .before .before in
+    let c10 = c8 .before .before in
+    let c12 = c10 .before .before in
+    let c14 = c12 .before .before in
+    let c16 = c14 .before .before in
+    let c18 = c16 .before .before in
+    let c20 = c18 .before .before in
+    let c22 = c20 .before .before in
+    let c24 = c22 .before .before in
+    c .end-line .ensures ∙ sym (need-some _ _ _ _ _ (taken-some _ _ _ (c24 .number-at .ensures) _ _ (c22 .id .given .1)) ∙ need-some _ _ _ _ _ (taken-some _ _ _ (c20 .number-at2 .ensures) _ _ (c18 .width .given .1)) ∙ need-some _ _ _ _ _ (taken-some _ _ _ (c16 .number-at3 .ensures) _ _ (c14 .length .given .1)) ∙ need-some _ _ _ _ _ (taken-some _ _ _ (c12 .quantity-at .ensures) _ _ (c10 .quantity .given .1)) ∙ need-some _ _ _ _ _ (taken-some _ _ _ (c8 .grain-at .ensures) _ _ (c6 .pattern .given .1)) ∙ need-some _ _ _ _ _ (taken-some _ _ _ (c4 .flag-at .ensures) _ _ (c2 .flag .given .1)))
 
 pub record-line-spec : {M : Type 1} → statement M
 record-line-spec =

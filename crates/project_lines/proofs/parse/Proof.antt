@@ -49,10 +49,11 @@ enum-known-why c = search needs
 
 returns : tie.Need-returns Inv-loop μ-loop
 returns c =
-    let number = c .before .before .before .before .before .before .before .before .loop .number in
-    let d = listedOf (c .before .before .before .before .before .before .before .before .loop .draft) in
+    let l = c .before .before .before .before .before .before .before .before .loop in
+    let number = l .number in
+    let d = listedOf (l .draft) in
     let lines = next-line (c .before .before .before .before .before .before .before .before .before .before .before .args .text .now) _ _ (c .before .before .before .before .before .before .before .loop-test .taken) (c .before .before .before .before .before .before .scan .ensures .0) in
-    (parsing-bad _ _ _ _ (sym (c .before .before .before .before .before .before .before .before .loop .inv .3) ∙ ap (meaningFrom number d) lines ∙ line-bad number d _ _ _ _ (c .before .before .before .before .read-line .ensures) (c .before .before .before .verdict-on .ensures) _ (ap verdictOf (c .before .why .given .1))), tt)
+    (parsing-bad _ _ _ _ (sym (l .inv .3) ∙ ap (meaningFrom number d) lines ∙ line-bad number d _ _ _ _ (c .before .before .before .before .read-line .ensures) (c .before .before .before .verdict-on .ensures) _ (ap verdictOf (c .before .why .given .1))), tt)
 
 enum-told : tie.Need-enum-told Inv-loop μ-loop
 enum-told c = search needs
@@ -90,13 +91,15 @@ put-file-requires c κs = c .before .before .loop .inv .0
 
 returns-2 : tie.Need-returns-2 Inv-loop μ-loop
 returns-2 c =
-    let draft = c .before .before .before .loop .draft in
-    let sound = c .before .before .before .loop .inv .0 in
+    let s = c .before .before .before .before .before .before in
+    let l = c .before .before .before .loop in
+    let draft = l .draft in
+    let sound = l .inv .0 in
     let d = listedOf draft in
-    let size : length (c .before .before .before .before .before .before .args .out .now) ≡ 3104 = search needs in
+    let size : length (s .args .out .now) ≡ 3104 = search needs in
     let boards : length (d .boards) ≤ 64 = omega (arith, length-rowsOf (draft .boards) (sound .0), sound .0 .1) in
     let panels : length (d .panels) ≤ 64 = omega (arith, length-rowsOf (draft .panels) (sound .1), sound .1 .1) in
-    let all = sym (c .before .before .before .loop .inv .3) ∙ ap (meaningFrom (c .before .before .before .loop .number) d) (no-lines (c .before .before .before .before .before .before .args .text .now) _ (c .before .before .loop-test .left)) ∙ line-none _ d in
+    let all = sym (l .inv .3) ∙ ap (meaningFrom (l .number) d) (no-lines (s .args .text .now) _ (c .before .before .loop-test .left)) ∙ line-none _ d in
     (parsing-file _ d _ _ _ all size boards panels (c .put-file .ensures), appended-front (c .put-file .ensures))
 
 pub parse-spec : {M : Type 1} → statement M

@@ -17,7 +17,9 @@ wide-requires-2 : tie.Need-wide-requires-2
 wide-requires-2 c κs = search needs
 
 put-contents-requires : tie.Need-put-contents-requires
-put-contents-requires c κs = omega (arith, c .before .before .before .before .before .before .pre .0 .1, c .before .before .before .before .before .before .pre .1 .1, c .before .before .wide .ensures, c .before .wide2 .ensures)
+put-contents-requires c κs =
+    let s = c .before .before .before .before .before .before in
+    omega (arith, s .pre .0 .1, s .pre .1 .1, c .before .before .wide .ensures, c .before .wide2 .ensures)
 
 put-settings-requires : tie.Need-put-settings-requires
 put-settings-requires c κs = search needs
@@ -34,10 +36,13 @@ same-length c = search needs
 returns : tie.Need-returns
 unfolding fileText
 returns c =
-    let d = c .before .before .before .before .before .before .before .before .before .before .before .before .before .before .before .before .before .before .before .before .before .args .draft in
-    let sound = c .before .before .before .before .before .before .before .before .before .before .before .before .before .before .before .before .before .before .before .before .before .pre in
-    let boards : c .before .before .before .before .before .before .before .before .before .before .before .before .before .before .before .before .before .wide .result ≡ length (rowsOf (d .boards)) = c .before .before .before .before .before .before .before .before .before .before .before .before .before .before .before .before .before .wide .ensures ∙ sym (length-rowsOf (d .boards) (sound .0)) in
-    let panels : c .before .before .before .before .before .before .before .before .before .before .before .before .before .before .before .before .wide2 .result ≡ length (rowsOf (d .panels)) = c .before .before .before .before .before .before .before .before .before .before .before .before .before .before .before .before .wide2 .ensures ∙ sym (length-rowsOf (d .panels) (sound .1)) in
+    let s = c .before .before .before .before .before .before .before .before .before .before .before .before .before .before .before .before .before .before .before .before .before in
+    let wide = c .before .before .before .before .before .before .before .before .before .before .before .before .before .before .before .before .before .wide in
+    let wide2 = c .before .before .before .before .before .before .before .before .before .before .before .before .before .before .before .before .wide2 in
+    let d = s .args .draft in
+    let sound = s .pre in
+    let boards : wide .result ≡ length (rowsOf (d .boards)) = wide .ensures ∙ sym (length-rowsOf (d .boards) (sound .0)) in
+    let panels : wide2 .result ≡ length (rowsOf (d .panels)) = wide2 .ensures ∙ sym (length-rowsOf (d .panels) (sound .1)) in
     appended-then (appended-is (c .before .before .before .before .before .before .before .before .before .before .before .before .before .before .put-contents .ensures) (λ i. contentsText (boards i) (panels i)))
     (appended-then (c .before .before .before .before .before .before .before .before .before .before .put-settings .ensures) (appended-then (c .before .before .before .before .before .before .put-rows .ensures) (c .before .before .put-rows2 .ensures)))
 

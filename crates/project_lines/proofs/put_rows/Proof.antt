@@ -36,13 +36,19 @@ loop-less : tie.Need-loop-less Inv-loop μ-loop
 loop-less c = search needs
 
 loop-again : tie.Need-loop-again Inv-loop μ-loop
-loop-again c = (search needs, omega (arith, c .before .before .put-row .ensures .reached, c .before .before .put-row .ensures .size), c .before .before .before .before .before .before .loop .inv .2, rows-next (c .before .before .before .before .before .before .before .before .args .t1 .all) (c .before .before .before .before .before .before .loop .i) _ (omega (arith, c .before .before .before .before .before .before .loop .inv .2)) (c .before .before .before .before .before .before .loop .inv .3) (c .before .before .put-row .ensures))
+loop-again c =
+    let l = c .before .before .before .before .before .before .loop in
+    let put-row = c .before .before .put-row in
+    (search needs, omega (arith, put-row .ensures .reached, put-row .ensures .size), l .inv .2, rows-next (c .before .before .before .before .before .before .before .before .args .t1 .all) (l .i) _ (omega (arith, l .inv .2)) (l .inv .3) (put-row .ensures))
 
 same-length : tie.Need-same-length Inv-loop μ-loop
 same-length c = c .before .loop .inv .3 .size
 
 returns : tie.Need-returns Inv-loop μ-loop
-returns c = let e : c .before .loop .i ≡ c .before .before .before .args .t1 .count = omega arith in appended-is (c .before .loop .inv .3) (ap (λ n. rowsText (take n (c .before .before .before .args .t1 .all))) e)
+returns c =
+    let s = c .before .before .before in
+    let l = c .before .loop in
+    let e : l .i ≡ s .args .t1 .count = omega arith in appended-is (l .inv .3) (ap (λ n. rowsText (take n (s .args .t1 .all))) e)
 
 pub put-rows-spec : {M : Type 1} → statement M
 put-rows-spec =

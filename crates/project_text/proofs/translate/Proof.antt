@@ -15,7 +15,9 @@ array-share-prefix-file : tie.Need-array-share-prefix-file
 array-share-prefix-file c = subst (λ r. Room r (c .before .before .before .parse .last .1 .0)) (c .before .parsed .given .1) (c .before .before .before .parse .ensures .1) .0
 
 slice-aggregate-write-all : tie.Need-slice-aggregate-write-all
-slice-aggregate-write-all c = subst (λ r. Room r (c .before .before .before .before .parse .last .1 .0)) (c .before .before .parsed .given .1) (c .before .before .before .before .parse .ensures .1) .1
+slice-aggregate-write-all c =
+    let parse = c .before .before .before .before .parse in
+    subst (λ r. Room r (parse .last .1 .0)) (c .before .before .parsed .given .1) (parse .ensures .1) .1
 
 write-all-requires : tie.Need-write-all-requires
 write-all-requires c κs = search needs

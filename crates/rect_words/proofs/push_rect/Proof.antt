@@ -31,9 +31,10 @@ same-length c = c .before .before .put-rect .kept .0 ∙ simp length-set
 
 returns : tie.Need-returns
 returns c =
-    let a = c .before .before .before .before .before .before .args in
+    let s = c .before .before .before .before .before .before in
+    let a = s .args in
     let w = now (a .sheet) in
-    c .before .before .put-rect .ensures ∙ push-words w (a .rect) (omega (arith, c .before .before .before .before .before .before .pre .0 .room, c .before .before .before .before .before .before .pre .1))
+    c .before .before .put-rect .ensures ∙ push-words w (a .rect) (omega (arith, s .pre .0 .room, s .pre .1))
 
 pub push-rect-spec : {M : Type 1} → statement M
 push-rect-spec =

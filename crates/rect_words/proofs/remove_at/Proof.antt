@@ -28,19 +28,22 @@ slice-write-sheet : tie.Need-slice-write-sheet
 slice-write-sheet c = search needs
 
 put-rect-requires : tie.Need-put-rect-requires
-put-rect-requires c κs = simp length-set (omega (arith, c .before .before .before .before .before .pre .0 .room, c .before .before .before .before .before .pre .0 .few, c .before .before .before .before .before .pre .1))
+put-rect-requires c κs =
+    let s = c .before .before .before .before .before in
+    simp length-set (omega (arith, s .pre .0 .room, s .pre .0 .few, s .pre .1))
 
 same-length : tie.Need-same-length
 same-length c = c .before .before .put-rect .kept .0 ∙ simp length-set
 
 returns : tie.Need-returns
 returns c =
-    let a = c .before .before .before .before .before .before .before .before .args in
+    let s = c .before .before .before .before .before .before .before .before in
+    let a = s .args in
     let w = now (a .sheet) in
     let m = getD w 0 0 - 1 in
-    let more : getD w 0 0 ≡ suc m = omega (arith, c .before .before .before .before .before .before .before .before .pre .1) in
+    let more : getD w 0 0 ≡ suc m = omega (arith, s .pre .1) in
     c .before .before .put-rect .ensures
-    ∙ rw (c .before .before .before .before .rect-at .ensures) (remove-words w m (a .index) more (omega (arith, c .before .before .before .before .before .before .before .before .pre .1)) (omega (arith, c .before .before .before .before .before .before .before .before .pre .0 .room, c .before .before .before .before .before .before .before .before .pre .0 .few)))
+    ∙ rw (c .before .before .before .before .rect-at .ensures) (remove-words w m (a .index) more (omega (arith, s .pre .1)) (omega (arith, s .pre .0 .room, s .pre .0 .few)))
 
 pub remove-at-spec : {M : Type 1} → statement M
 remove-at-spec =

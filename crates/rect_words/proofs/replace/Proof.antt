@@ -17,8 +17,10 @@ push-remainder-requires c κs =
 push-remainder-requires-2 : tie.Need-push-remainder-requires-2
 push-remainder-requires-2 c κs =
     let s = c .before .before .before .before .before .before .before .before .before .before in
+    let remove-at = c .before .before .before .before .before .before .before .remove-at in
+    let push-remainder = c .before .before .before .push-remainder in
     let a = s .args in
-    ready-second (now (a .sheet)) (a .index) (s .pre .0 .room) (s .pre .1) (s .pre .2) (c .before .before .before .before .before .before .before .remove-at .last .0) (c .before .before .before .before .before .before .before .remove-at .ensures) (a .bottom) (c .before .before .before .push-remainder .last .0) (c .before .before .before .push-remainder .ensures)
+    ready-second (now (a .sheet)) (a .index) (s .pre .0 .room) (s .pre .1) (s .pre .2) (remove-at .last .0) (remove-at .ensures) (a .bottom) (push-remainder .last .0) (push-remainder .ensures)
 
 same-length : tie.Need-same-length
 same-length c = search needs
@@ -26,8 +28,11 @@ same-length c = search needs
 returns : tie.Need-returns
 returns c =
     let s = c .before .before .before .before .before .before .before .before .before .before .before .before .before in
+    let remove-at = c .before .before .before .before .before .before .before .before .before .before .remove-at in
+    let push-remainder = c .before .before .before .before .before .before .push-remainder in
+    let push-remainder2 = c .before .before .push-remainder2 in
     let a = s .args in
-    with-both (now (a .sheet)) (a .index) (s .pre .0 .room) (s .pre .1) (s .pre .2) (c .before .before .before .before .before .before .before .before .before .before .remove-at .last .0) (c .before .before .before .before .before .before .before .before .before .before .remove-at .ensures) (a .bottom) (c .before .before .before .before .before .before .push-remainder .last .0) (c .before .before .before .before .before .before .push-remainder .ensures) (a .right) (c .before .before .push-remainder2 .last .0) (c .before .before .push-remainder2 .ensures)
+    with-both (now (a .sheet)) (a .index) (s .pre .0 .room) (s .pre .1) (s .pre .2) (remove-at .last .0) (remove-at .ensures) (a .bottom) (push-remainder .last .0) (push-remainder .ensures) (a .right) (push-remainder2 .last .0) (push-remainder2 .ensures)
 
 pub replace-spec : {M : Type 1} → statement M
 replace-spec =

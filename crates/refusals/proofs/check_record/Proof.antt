@@ -57,21 +57,25 @@ first-row-requires-2 c κs = search needs
 
 returns : tie.Need-returns
 returns c =
-    let f : List ℕ = c .before .before .before .before .before .before .before .before .before .before .before .args .file .now in
-    let seen : List ℕ = idsBefore f (c .before .before .before .before .before .before .before .before .before .before .before .args .base) (c .before .before .before .before .before .before .before .before .before .before .before .args .i) in
-    let q : Piece = recordAt f (c .before .before .before .before .before .before .before .before .before .before .before .args .base) (c .before .before .before .before .before .before .before .before .before .before .before .args .i) in
+    let s = c .before .before .before .before .before .before .before .before .before .before .before in
+    let piece-at = c .before .before .before .before .before .before .before .before .before .piece-at in
+    let f : List ℕ = s .args .file .now in
+    let seen : List ℕ = idsBefore f (s .args .base) (s .args .i) in
+    let q : Piece = recordAt f (s .args .base) (s .args .i) in
     c .first-row .ensures
-    ∙ stock-rows (pieceOf (c .before .before .before .before .before .before .before .before .before .piece-at .result)) q seen (c .before .before .before .before .before .before .before .before .before .before .before .args .count) _ _ _ _ (c .before .before .before .before .before .before .before .before .before .piece-at .ensures) (c .before .before .before .before .before .before .before .before .zero-side .ensures) (c .before .before .before .before .before .before .before .large-side .ensures) (c .before .before .before .before .before .before .id-used .ensures) (c .before .before .bad-stock-codes .ensures)
-    ∙ ap (λ (k : Kind). firstThatApplies (ruleOf k seen (c .before .before .before .before .before .before .before .before .before .before .before .args .count) q)) (sym (c .before .before .before .enum-told .given .1))
+    ∙ stock-rows (pieceOf (piece-at .result)) q seen (s .args .count) _ _ _ _ (piece-at .ensures) (c .before .before .before .before .before .before .before .before .zero-side .ensures) (c .before .before .before .before .before .before .before .large-side .ensures) (c .before .before .before .before .before .before .id-used .ensures) (c .before .before .bad-stock-codes .ensures)
+    ∙ ap (λ (k : Kind). firstThatApplies (ruleOf k seen (s .args .count) q)) (sym (c .before .before .before .enum-told .given .1))
 
 returns-2 : tie.Need-returns-2
 returns-2 c =
-    let f : List ℕ = c .before .before .before .before .before .before .before .before .before .before .before .args .file .now in
-    let seen : List ℕ = idsBefore f (c .before .before .before .before .before .before .before .before .before .before .before .args .base) (c .before .before .before .before .before .before .before .before .before .before .before .args .i) in
-    let q : Piece = recordAt f (c .before .before .before .before .before .before .before .before .before .before .before .args .base) (c .before .before .before .before .before .before .before .before .before .before .before .args .i) in
+    let s = c .before .before .before .before .before .before .before .before .before .before .before in
+    let piece-at = c .before .before .before .before .before .before .before .before .before .piece-at in
+    let f : List ℕ = s .args .file .now in
+    let seen : List ℕ = idsBefore f (s .args .base) (s .args .i) in
+    let q : Piece = recordAt f (s .args .base) (s .args .i) in
     c .first-row2 .ensures
-    ∙ cut-rows (pieceOf (c .before .before .before .before .before .before .before .before .before .piece-at .result)) q seen (c .before .before .before .before .before .before .before .before .before .before .before .args .count) _ _ _ _ (c .before .before .before .before .before .before .before .before .before .piece-at .ensures) (c .before .before .before .before .before .before .before .before .zero-side .ensures) (c .before .before .before .before .before .before .before .large-side .ensures) (c .before .before .before .before .before .before .id-used .ensures) (c .before .before .bad-codes .ensures)
-    ∙ ap (λ (k : Kind). firstThatApplies (ruleOf k seen (c .before .before .before .before .before .before .before .before .before .before .before .args .count) q)) (sym (c .before .before .before .enum-told2 .given .1))
+    ∙ cut-rows (pieceOf (piece-at .result)) q seen (s .args .count) _ _ _ _ (piece-at .ensures) (c .before .before .before .before .before .before .before .before .zero-side .ensures) (c .before .before .before .before .before .before .before .large-side .ensures) (c .before .before .before .before .before .before .id-used .ensures) (c .before .before .bad-codes .ensures)
+    ∙ ap (λ (k : Kind). firstThatApplies (ruleOf k seen (s .args .count) q)) (sym (c .before .before .before .enum-told2 .given .1))
 
 pub check-record-spec : {M : Type 1} → statement M
 check-record-spec =

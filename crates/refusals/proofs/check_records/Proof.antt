@@ -48,7 +48,9 @@ enum-known-checked c = search needs
 
 returns : tie.Need-returns Inv-loop μ-loop
 returns c =
-    sym (c .before .before .before .before .before .loop .inv .2 ∙ rest-refused (c .before .before .before .before .before .before .before .args .file .now) (c .before .before .before .before .before .before .before .args .base) (c .before .before .before .before .before .before .before .args .n) (ruleOf (c .before .before .before .before .before .before .before .args .kind)) (c .before .before .before .before .before .loop .i) (c .before .before .before .before .before .loop .count) _ (c .before .before .before .before .loop-test .taken) (sym (ap refusalOf (c .before .checked .given .1)) ∙ c .before .before .before .check-record .ensures))
+    let s = c .before .before .before .before .before .before .before in
+    let l = c .before .before .before .before .before .loop in
+    sym (l .inv .2 ∙ rest-refused (s .args .file .now) (s .args .base) (s .args .n) (ruleOf (s .args .kind)) (l .i) (l .count) _ (c .before .before .before .before .loop-test .taken) (sym (ap refusalOf (c .before .checked .given .1)) ∙ c .before .before .before .check-record .ensures))
 
 add-i : tie.Need-add-i Inv-loop μ-loop
 add-i c = search needs
@@ -57,14 +59,19 @@ loop-less : tie.Need-loop-less Inv-loop μ-loop
 loop-less c = search needs
 
 loop-again : tie.Need-loop-again Inv-loop μ-loop
-loop-again c = (
-  search needs,
-  search needs,
-  c .before .before .before .before .before .loop .inv .2 ∙ rest-passed (c .before .before .before .before .before .before .before .args .file .now) (c .before .before .before .before .before .before .before .args .base) (c .before .before .before .before .before .before .before .args .n) (ruleOf (c .before .before .before .before .before .before .before .args .kind)) (c .before .before .before .before .before .loop .i) (c .before .before .before .before .before .loop .count) _ (c .before .before .before .before .loop-test .taken) (c .number-4 .ensures) (sym (ap refusalOf (c .before .enum-told .given .1)) ∙ c .before .before .before .check-record .ensures),
-)
+loop-again c =
+    let s = c .before .before .before .before .before .before .before in
+    let l = c .before .before .before .before .before .loop in (
+      search needs,
+      search needs,
+      l .inv .2 ∙ rest-passed (s .args .file .now) (s .args .base) (s .args .n) (ruleOf (s .args .kind)) (l .i) (l .count) _ (c .before .before .before .before .loop-test .taken) (c .number-4 .ensures) (sym (ap refusalOf (c .before .enum-told .given .1)) ∙ c .before .before .before .check-record .ensures),
+    )
 
 returns-2 : tie.Need-returns-2 Inv-loop μ-loop
-returns-2 c = sym (c .before .loop .inv .2 ∙ rest-none (c .before .before .before .args .file .now) (c .before .before .before .args .base) (c .before .before .before .args .n) (ruleOf (c .before .before .before .args .kind)) (c .before .loop .i) (c .before .loop .count) (c .loop-test .left))
+returns-2 c =
+    let s = c .before .before .before in
+    let l = c .before .loop in
+    sym (l .inv .2 ∙ rest-none (s .args .file .now) (s .args .base) (s .args .n) (ruleOf (s .args .kind)) (l .i) (l .count) (c .loop-test .left))
 
 pub check-records-spec : {M : Type 1} → statement M
 check-records-spec =

@@ -10,7 +10,9 @@ cut-records-requires : tie.Need-cut-records-requires
 cut-records-requires c κs = long (c .before .args .file .now) (c .before .pre)
 
 returns : tie.Need-returns
-returns c = whole-empty (projectOf (c .before .before .before .args .file .now)) (c .before .cut-records .result) (cuts-empty (c .before .before .before .args .file .now) _ (c .before .cut-records .ensures)) (c .if1 .taken)
+returns c =
+    let s = c .before .before .before in
+    whole-empty (projectOf (s .args .file .now)) (c .before .cut-records .result) (cuts-empty (s .args .file .now) _ (c .before .cut-records .ensures)) (c .if1 .taken)
 
 stock-records-requires : tie.Need-stock-records-requires
 stock-records-requires c κs = long (c .before .before .before .args .file .now) (c .before .before .before .pre)
@@ -20,8 +22,10 @@ total-quantity-requires c κs = let s : Shape (c .before .before .before .before
 
 returns-2 : tie.Need-returns-2
 returns-2 c =
-    whole-no-stock (projectOf (c .before .before .before .before .before .before .args .file .now)) (c .before .before .before .before .cut-records .result) (cuts-empty (c .before .before .before .before .before .before .args .file .now) _ (c .before .before .before .before .cut-records .ensures)) (c .before .before .before .if1 .left)
-    (c .before .total-quantity .result) (stock-total (c .before .before .before .before .before .before .args .file .now) _ _ (c .before .before .stock-records .ensures) (c .before .total-quantity .ensures)) (c .if2 .taken)
+    let s = c .before .before .before .before .before .before in
+    let cut-records = c .before .before .before .before .cut-records in
+    whole-no-stock (projectOf (s .args .file .now)) (cut-records .result) (cuts-empty (s .args .file .now) _ (cut-records .ensures)) (c .before .before .before .if1 .left)
+    (c .before .total-quantity .result) (stock-total (s .args .file .now) _ _ (c .before .before .stock-records .ensures) (c .before .total-quantity .ensures)) (c .if2 .taken)
 
 number-1-requires : tie.Need-number-1-requires
 number-1-requires c κs = let h = long (c .before .before .before .before .before .before .args .file .now) (c .before .before .before .before .before .before .pre) in omega arith
@@ -29,15 +33,21 @@ number-1-requires c κs = let h = long (c .before .before .before .before .befor
 returns-3 : tie.Need-returns-3
 unfolding projectOf
 returns-3 c =
-    whole-nested (projectOf (c .before .before .before .before .before .before .before .before .args .file .now)) (c .before .before .before .before .before .before .cut-records .result) (cuts-empty (c .before .before .before .before .before .before .before .before .args .file .now) _ (c .before .before .before .before .before .before .cut-records .ensures)) (c .before .before .before .before .before .if1 .left)
-    (c .before .before .before .total-quantity .result) (stock-total (c .before .before .before .before .before .before .before .before .args .file .now) _ _ (c .before .before .before .before .stock-records .ensures) (c .before .before .before .total-quantity .ensures)) (c .before .before .if2 .left)
+    let s = c .before .before .before .before .before .before .before .before in
+    let cut-records = c .before .before .before .before .before .before .cut-records in
+    let total-quantity = c .before .before .before .total-quantity in
+    whole-nested (projectOf (s .args .file .now)) (cut-records .result) (cuts-empty (s .args .file .now) _ (cut-records .ensures)) (c .before .before .before .before .before .if1 .left)
+    (total-quantity .result) (stock-total (s .args .file .now) _ _ (c .before .before .before .before .stock-records .ensures) (total-quantity .ensures)) (c .before .before .if2 .left)
     (c .before .number-1 .result) (c .before .number-1 .ensures) (c .if3 .taken)
 
 returns-4 : tie.Need-returns-4
 unfolding projectOf
 returns-4 c =
-    whole-passed (projectOf (c .before .before .before .before .before .before .before .before .args .file .now)) (c .before .before .before .before .before .before .cut-records .result) (cuts-empty (c .before .before .before .before .before .before .before .before .args .file .now) _ (c .before .before .before .before .before .before .cut-records .ensures)) (c .before .before .before .before .before .if1 .left)
-    (c .before .before .before .total-quantity .result) (stock-total (c .before .before .before .before .before .before .before .before .args .file .now) _ _ (c .before .before .before .before .stock-records .ensures) (c .before .before .before .total-quantity .ensures)) (c .before .before .if2 .left)
+    let s = c .before .before .before .before .before .before .before .before in
+    let cut-records = c .before .before .before .before .before .before .cut-records in
+    let total-quantity = c .before .before .before .total-quantity in
+    whole-passed (projectOf (s .args .file .now)) (cut-records .result) (cuts-empty (s .args .file .now) _ (cut-records .ensures)) (c .before .before .before .before .before .if1 .left)
+    (total-quantity .result) (stock-total (s .args .file .now) _ _ (c .before .before .before .before .stock-records .ensures) (total-quantity .ensures)) (c .before .before .if2 .left)
     (c .before .number-1 .result) (c .before .number-1 .ensures) (c .if3 .left)
 
 pub check-whole-spec : {M : Type 1} → statement M

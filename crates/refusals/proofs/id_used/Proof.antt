@@ -32,17 +32,24 @@ number-8-requires c κs = search needs
 
 returns : tie.Need-returns Inv-loop μ-loop
 returns c =
-    sym (c .before .before .before .loop .inv .1 ∙ id-hit (c .before .before .before .before .before .args .file .now) (c .before .before .before .before .before .args .base) (c .before .before .before .before .before .args .id) (c .before .before .before .loop .k) (c .before .before .loop-test .taken) (c .if1 .taken ∙ c .before .number-8 .ensures))
+    let s = c .before .before .before .before .before in
+    let l = c .before .before .before .loop in
+    sym (l .inv .1 ∙ id-hit (s .args .file .now) (s .args .base) (s .args .id) (l .k) (c .before .before .loop-test .taken) (c .if1 .taken ∙ c .before .number-8 .ensures))
 
 loop-less : tie.Need-loop-less Inv-loop μ-loop
 loop-less c = search needs
 
 loop-again : tie.Need-loop-again Inv-loop μ-loop
 loop-again c =
-    (search needs, c .before .before .before .loop .inv .1 ∙ id-miss (c .before .before .before .before .before .args .file .now) (c .before .before .before .before .before .args .base) (c .before .before .before .before .before .args .id) (c .before .before .before .loop .k) (c .before .before .loop-test .taken) (λ e. c .if1 .left (e ∙ sym (c .before .number-8 .ensures))))
+    let s = c .before .before .before .before .before in
+    let l = c .before .before .before .loop in
+    (search needs, l .inv .1 ∙ id-miss (s .args .file .now) (s .args .base) (s .args .id) (l .k) (c .before .before .loop-test .taken) (λ e. c .if1 .left (e ∙ sym (c .before .number-8 .ensures))))
 
 returns-2 : tie.Need-returns-2 Inv-loop μ-loop
-returns-2 c = sym (c .before .loop .inv .1 ∙ id-none (c .before .before .before .args .file .now) (c .before .before .before .args .base) (c .before .before .before .args .id) (c .before .loop .k) (c .loop-test .left))
+returns-2 c =
+    let s = c .before .before .before in
+    let l = c .before .loop in
+    sym (l .inv .1 ∙ id-none (s .args .file .now) (s .args .base) (s .args .id) (l .k) (c .loop-test .left))
 
 pub id-used-spec : {M : Type 1} → statement M
 id-used-spec =

@@ -32,7 +32,9 @@ shared-slice-read-t13 : tie.Need-shared-slice-read-t13
 shared-slice-read-t13 c = search needs
 
 returns : tie.Need-returns
-returns c = cut-read (c .before .before .before .before .before .args .table .now) (c .before .before .before .before .before .args .i) _ _ (c .before .before .before .head-at .ensures) (c .before .pattern-of .ensures)
+returns c =
+    let s = c .before .before .before .before .before in
+    cut-read (s .args .table .now) (s .args .i) _ _ (c .before .before .before .head-at .ensures) (c .before .pattern-of .ensures)
 
 pub cut-at-spec : {M : Type 1} → statement M
 cut-at-spec =

@@ -53,7 +53,9 @@ shared-slice-read-t24 : tie.Need-shared-slice-read-t24
 shared-slice-read-t24 c = search needs
 
 returns : tie.Need-returns
-returns c = head-read (c .before .before .before .before .before .before .before .args .stride) (c .before .before .before .before .before .before .before .args .table .now) (c .before .before .before .before .before .before .before .args .i) _ (c .before .before .before .before .before .before .before .pre .0) (c .before .before .before .joined .ensures)
+returns c =
+    let s = c .before .before .before .before .before .before .before in
+    head-read (s .args .stride) (s .args .table .now) (s .args .i) _ (s .pre .0) (c .before .before .before .joined .ensures)
 
 pub head-at-spec : {M : Type 1} → statement M
 head-at-spec =

@@ -49,7 +49,9 @@ add-load-at-2 : tie.Need-add-load-at-2 Inv-loop μ-loop
 add-load-at-2 c = omega (arith, c .before .before .before .loop-test .taken, c .before .before .before .before .before .before .before .before .before .pre .2)
 
 add-load-at-3 : tie.Need-add-load-at-3 Inv-loop μ-loop
-add-load-at-3 c = omega (arith, c .before .before .before .loop-test .taken, c .before .before .before .before .before .before .before .before .before .pre .2, c .before .before .before .before .before .before .before .before .before .pre .3)
+add-load-at-3 c =
+    let s = c .before .before .before .before .before .before .before .before .before in
+    omega (arith, c .before .before .before .loop-test .taken, s .pre .2, s .pre .3)
 
 load-at-requires-2 : tie.Need-load-at-requires-2 Inv-loop μ-loop
 load-at-requires-2 c κs =
@@ -68,13 +70,14 @@ crossover-child-from-donor-bin-requires :
 crossover-child-from-donor-bin-requires c κs =
     let s = c .before .before .before .before .before .before .before .before .before .before .before in
     let l = c .before .before .before .before .before .before .loop in
+    let load-at = c .before .before .before .load-at in
     let before : List ℕ = s .args .ws .now in
     let base : ℕ = s .args .base in
     let inst : ProblemInstance = instanceIn (s .args .stock .now) (s .args .cuts .now) (s .args .inst) in
     let cuts : length (inst .cuts) ≡ s .args .inst .cuts = cut-count (s .args .stock .now) (s .args .cuts .now) (s .args .inst) in
     let here : l .i + 1 < s .args .count = c .before .before .before .before .before .loop-test .taken in
     let first : l .i < s .args .count = omega arith in
-    let left = parent-loaded inst (s .args .h) before (l .ws) base (s .args .count) (l .i) (l .size) (l .inv .3) (s .args .inst .cuts) (l .i) (c .before .before .before .load-at .result) cuts first (c .before .before .before .load-at .ensures) in
+    let left = parent-loaded inst (s .args .h) before (l .ws) base (s .args .count) (l .i) (l .size) (l .inv .3) (s .args .inst .cuts) (l .i) (load-at .result) cuts first (load-at .ensures) in
     let right = parent-loaded inst (s .args .h) before (l .ws) base (s .args .count) (l .i) (l .size) (l .inv .3) (s .args .inst .cuts) (l .i + 1) (c .before .load-at2 .result) cuts here (c .before .load-at2 .ensures) in (
       s .pre .0,
       subst (Stands inst []) (sym left) (standing-at inst before base (s .args .count) (l .i) (s .pre .1) first),
@@ -101,20 +104,23 @@ loop-again : tie.Need-loop-again Inv-loop μ-loop
 loop-again c =
     let s = c .before .before .before .before .before .before .before .before .before .before .before .before .before .before .before .before .before .before in
     let l = c .before .before .before .before .before .before .before .before .before .before .before .before .before .loop in
+    let load-at = c .before .before .before .before .before .before .before .before .before .before .load-at in
+    let load-at2 = c .before .before .before .before .before .before .before .before .load-at2 in
+    let push-child = c .before .before .push-child in
     let before : List ℕ = s .args .ws .now in
     let base : ℕ = s .args .base in
     let inst : ProblemInstance = instanceIn (s .args .stock .now) (s .args .cuts .now) (s .args .inst) in
     let cuts : length (inst .cuts) ≡ s .args .inst .cuts = cut-count (s .args .stock .now) (s .args .cuts .now) (s .args .inst) in
     let here : l .i + 1 < s .args .count = c .before .before .before .before .before .before .before .before .before .before .before .before .loop-test .taken in
     let first : l .i < s .args .count = omega arith in
-    let left = parent-loaded inst (s .args .h) before (l .ws) base (s .args .count) (l .i) (l .size) (l .inv .3) (s .args .inst .cuts) (l .i) (c .before .before .before .before .before .before .before .before .before .before .load-at .result) cuts first (c .before .before .before .before .before .before .before .before .before .before .load-at .ensures) in
-    let right = parent-loaded inst (s .args .h) before (l .ws) base (s .args .count) (l .i) (l .size) (l .inv .3) (s .args .inst .cuts) (l .i + 1) (c .before .before .before .before .before .before .before .before .load-at2 .result) cuts here (c .before .before .before .before .before .before .before .before .load-at2 .ensures) in
+    let left = parent-loaded inst (s .args .h) before (l .ws) base (s .args .count) (l .i) (l .size) (l .inv .3) (s .args .inst .cuts) (l .i) (load-at .result) cuts first (load-at .ensures) in
+    let right = parent-loaded inst (s .args .h) before (l .ws) base (s .args .count) (l .i) (l .size) (l .inv .3) (s .args .inst .cuts) (l .i + 1) (load-at2 .result) cuts here (load-at2 .ensures) in
     let child = c .before .before .before .before .before .before .crossover-child-from-donor-bin in (
       omega arith,
-      c .before .before .push-child .kept .0 ∙ l .inv .1,
+      push-child .kept .0 ∙ l .inv .1,
       child .kept .0 ∙ l .inv .2,
-      crossed-step inst (s .args .h) before (l .ws) base (s .args .count) (l .i) (l .size) (l .inv .3) (c .before .before .push-child .last .0) (c .before .before .before .before .before .before .before .before .before .before .load-at .result) (c .before .before .before .before .before .before .before .before .load-at2 .result) (child .result) (c .before .before .push-child .result) here (s .pre .2)
-          (s .pre .0 .ranged .fewPanels) left right (child .ensures .0) (c .before .before .push-child .ensures),
+      crossed-step inst (s .args .h) before (l .ws) base (s .args .count) (l .i) (l .size) (l .inv .3) (push-child .last .0) (load-at .result) (load-at2 .result) (child .result) (push-child .result) here (s .pre .2)
+          (s .pre .0 .ranged .fewPanels) left right (child .ensures .0) (push-child .ensures),
       child .ensures .1 ∙ l .inv .4,
     )
 

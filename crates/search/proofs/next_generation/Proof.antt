@@ -25,7 +25,9 @@ improve-population-requires c κs =
     (s .pre .0, crossed .ensures .0 .stands, omega (arith, crossed .kept .0, crossed .ensures .3, region-most (s .args .base) (s .pre .3), s .pre .4), omega (arith, crossed .kept .1 .1 .1 .0, s .pre .5))
 
 sub-survival-generation : tie.Need-sub-survival-generation
-sub-survival-generation c = region-most (c .before .before .before .before .before .before .before .before .before .before .before .before .before .before .before .before .before .before .before .args .base) (c .before .before .before .before .before .before .before .before .before .before .before .before .before .before .before .before .before .before .before .pre .3)
+sub-survival-generation c =
+    let s = c .before .before .before .before .before .before .before .before .before .before .before .before .before .before .before .before .before .before .before in
+    region-most (s .args .base) (s .pre .3)
 
 survival-generation-requires : tie.Need-survival-generation-requires
 survival-generation-requires c κs =

@@ -25,7 +25,8 @@ same-length c = search needs
 returns-2 : tie.Need-returns-2
 returns-2 c =
     let s = c .before .before .before .before .before .before .before .before in
-    push-one (s .args .base) (s .args .size) (s .args .child) (s .args .ws .now) (c .before .before .store-at .last .0) (not-false _ (c .before .before .before .before .before .if1 .left)) (s .pre .0) (c .before .before .store-at .ensures)
+    let store-at = c .before .before .store-at in
+    push-one (s .args .base) (s .args .size) (s .args .child) (s .args .ws .now) (store-at .last .0) (not-false _ (c .before .before .before .before .before .if1 .left)) (s .pre .0) (store-at .ensures)
 
 pub push-child-spec : {M : Type 1} → statement M
 push-child-spec =

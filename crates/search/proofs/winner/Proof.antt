@@ -60,7 +60,9 @@ next-generation-requires c κs =
     (s .pre .0, u .stands, u .few, u .region, omega (arith, l .inv .1, first .kept .0, s .pre .4), omega (arith, l .inv .2, first .kept .1 .0, s .pre .5))
 
 sub-base : tie.Need-sub-base Inv-loop μ-loop
-sub-base c = region-most (c .before .before .before .before .before .before .before .before .before .loop .base) (c .before .before .before .before .before .before .before .before .before .loop .inv .3 .region)
+sub-base c =
+    let l = c .before .before .before .before .before .before .before .before .before .loop in
+    region-most (l .base) (l .inv .3 .region)
 
 add-round : tie.Need-add-round Inv-loop μ-loop
 add-round c = search needs

@@ -38,14 +38,16 @@ heuristic-at-requires-2 c κs = search needs
 returns-2 : tie.Need-returns-2
 returns-2 c =
     let s = c .before .before .before .before .before in
+    let sorted-seeds = c .before .before .before .before .sorted-seeds in
+    let wrapping-add-u64 = c .before .before .wrapping-add-u64 in
     let size : length (c .before .before .before .before .before .args .rows .rows) ≡ 8 = search counted in
-    let first : c .before .before .before .before .sorted-seeds .result ≡ sortedSeeds (s .args .rows) (s .args .n) = c .before .before .before .before .sorted-seeds .ensures in
+    let first : sorted-seeds .result ≡ sortedSeeds (s .args .rows) (s .args .n) = sorted-seeds .ensures in
     let behind : sortedSeeds (s .args .rows) (s .args .n) ≤ s .args .k = omega (arith, first, c .before .before .before .if1 .left) in
-    let seed : c .before .before .wrapping-add-u64 .result ≡ wrap (s .args .n .«first_seed» + (s .args .k - sortedSeeds (s .args .rows) (s .args .n))) =
-    c .before .before .wrapping-add-u64 .ensures ∙ ap (λ (f : ℕ). wrap (s .args .n .«first_seed» + (s .args .k - f))) first
+    let seed : wrapping-add-u64 .result ≡ wrap (s .args .n .«first_seed» + (s .args .k - sortedSeeds (s .args .rows) (s .args .n))) =
+    wrapping-add-u64 .ensures ∙ ap (λ (f : ℕ). wrap (s .args .n .«first_seed» + (s .args .k - f))) first
     in
-    λ inst e o. is-shuffled (s .args .rows) (s .args .n) (s .pre .0) size inst (s .args .sorted) o (s .args .k) _ (c .before .before .wrapping-add-u64 .result) (c .before .shuffled-order .result) behind (s .pre .2) seed (c .heuristic-at2 .ensures)
-    (c .before .shuffled-order .ensures ∙ ap (λ (m : ℕ). shuffled 0 (c .before .before .wrapping-add-u64 .result) (take m (s .args .sorted)) ++ drop m (s .args .sorted)) (sym e))
+    λ inst e o. is-shuffled (s .args .rows) (s .args .n) (s .pre .0) size inst (s .args .sorted) o (s .args .k) _ (wrapping-add-u64 .result) (c .before .shuffled-order .result) behind (s .pre .2) seed (c .heuristic-at2 .ensures)
+    (c .before .shuffled-order .ensures ∙ ap (λ (m : ℕ). shuffled 0 (wrapping-add-u64 .result) (take m (s .args .sorted)) ++ drop m (s .args .sorted)) (sym e))
 
 pub initial-candidate-seed-spec : {M : Type 1} → statement M
 initial-candidate-seed-spec =

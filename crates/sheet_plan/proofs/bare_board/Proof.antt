@@ -20,7 +20,9 @@ same-length-2 c = search needs
 returns : tie.Need-returns
 returns c =
     let s = c .before .before .before .before .before .before .before .before .before .before in
-    bare (s .args .kerf-width) (s .args .stock) (s .args .rects .now) _ (s .args .guide .now) _ (c .before .before .new-guide .result) (c .before .before .before .before .before .before .new-sheet .kept .0 ∙ s .pre .0) (c .before .before .new-guide .kept .0 ∙ s .pre .1) (s .pre .2) (c .before .before .before .before .before .before .new-sheet .ensures) (c .before .before .new-guide .ensures)
+    let new-sheet = c .before .before .before .before .before .before .new-sheet in
+    let new-guide = c .before .before .new-guide in
+    bare (s .args .kerf-width) (s .args .stock) (s .args .rects .now) _ (s .args .guide .now) _ (new-guide .result) (new-sheet .kept .0 ∙ s .pre .0) (new-guide .kept .0 ∙ s .pre .1) (s .pre .2) (new-sheet .ensures) (new-guide .ensures)
 
 pub bare-board-spec : {M : Type 1} → statement M
 bare-board-spec =

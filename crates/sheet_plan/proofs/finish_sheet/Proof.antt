@@ -103,12 +103,13 @@ same-length c = search needs
 returns : tie.Need-returns
 returns c =
     let s = c .before .before .before .before .before .before .before .before .before .before .before .before .before .before .before .before .before .before .before .before .before .before in
+    let put-waste = c .before .before .before .before .before .before .before .before .before .before .before .before .before .before .before .before .put-waste in
     let z = of-sheet s in
     record {
       finishes = λ kerf t before board state size first.
           finished kerf t (s .args .rects .now) (s .args .guide .now) (s .args .p) state (s .args .at) before (s .args .plan .now) size
           (omega (arith, z .fits, body-length kerf t (s .args .rects .now) (s .args .guide .now) (s .args .p) state)) first _ _ _ _ _ _ _
-          (c .before .before .before .before .before .before .before .before .before .before .before .before .before .before .before .before .put-waste .ensures .0) (c .before .before .before .before .before .before .before .before .before .before .before .before .before .before .before .before .put-waste .ensures .1) (c .before .before .before .before .before .before .before .before .before .before .before .before .put-nodes .ensures) (c .before .before .before .before .before .before .before .before .before .saw-length .ensures) (c .before .before .before .before .before .before .before .used .ensures)
+          (put-waste .ensures .0) (put-waste .ensures .1) (c .before .before .before .before .before .before .before .before .before .before .before .before .put-nodes .ensures) (c .before .before .before .before .before .before .before .before .before .saw-length .ensures) (c .before .before .before .before .before .before .before .used .ensures)
           (c .before .before .before .before .before .before .before .before .area .ensures ∙ ap (λ (b : StockInstance). stockArea b) (sym board)) (rw board (c .before .before .before .put-head .ensures));
     }
 

@@ -89,8 +89,16 @@ enum-known-inserted c = search needs
 take-piece-requires : tie.Need-take-piece-requires
 unfolding instanceIn
 take-piece-requires c κs =
-    let s = c .before .before .before .before .before .before .before .before .before .before .before .before .before .before .before .before .before .before .before .before .before .before in
-    may-take (inst s) (s .pre .0 .ranged) (s .args .insertions .now) (s .args .board) (s .pre .1) (s .args .i) (s .pre .2) (s .args .rects .now) (s .args .guide .now) (s .args .p) (s .pre .3) (on-board (c .before .before .before .before .before .before .before .before .before .before .before .before .before)) _ _ _ (grain (c .before .before .before .before .before .before .before .before .before .before .before .before)) (cut-read (c .before .before .before .before .before .before .before .before .before .before)) (c .before .before .before .before .before .before .before .before .before .row-of .ensures) (c .before .before .before .before .before .before .before .try-insert .last .0) (c .before .before .before .before .before .before .before .try-insert .result) (c .before .before .before .before .before .before .before .try-insert .ensures) _ _ _ _ (c .before .before .before .inserted .given .1) (s .args .at) (s .args .plan .now) (s .pre .4)
+    let c3 = c .before .before .before in
+    let c7 = c3 .before .before .before .before in
+    let c9 = c7 .before .before in
+    let c10 = c9 .before in
+    let c12 = c10 .before .before in
+    let c13 = c12 .before in
+    let c22 = c13 .before .before .before .before .before .before .before .before .before in
+    let s = c22 in
+    let try-insert = c7 .try-insert in
+    may-take (inst s) (s .pre .0 .ranged) (s .args .insertions .now) (s .args .board) (s .pre .1) (s .args .i) (s .pre .2) (s .args .rects .now) (s .args .guide .now) (s .args .p) (s .pre .3) (on-board (c13)) _ _ _ (grain (c12)) (cut-read (c10)) (c9 .row-of .ensures) (try-insert .last .0) (try-insert .result) (try-insert .ensures) _ _ _ _ (c3 .inserted .given .1) (s .args .at) (s .args .plan .now) (s .pre .4)
 
 same-length : tie.Need-same-length
 same-length c = search needs
@@ -98,8 +106,15 @@ same-length c = search needs
 returns-2 : tie.Need-returns-2
 unfolding instanceIn
 returns-2 c =
-    let s = c .before .before .before .before .before .before .before .before .before .before .before .before .before .before .before .before .before .before .before in
-    absurd (never (inst s) (s .pre .0 .ranged) (s .args .insertions .now) (s .args .board) (s .pre .1) (s .args .i) (s .pre .2) (s .args .rects .now) (s .args .guide .now) (s .args .p) (s .pre .3) (on-board (c .before .before .before .before .before .before .before .before .before .before)) _ _ _ (grain (c .before .before .before .before .before .before .before .before .before)) (cut-read (c .before .before .before .before .before .before .before)) (c .before .before .before .before .before .before .row-of .ensures) (c .before .before .before .before .try-insert .last .0) (c .before .before .before .before .try-insert .result) (c .before .before .before .before .try-insert .ensures) (c .enum-told .given .1))
+    let c4 = c .before .before .before .before in
+    let c6 = c4 .before .before in
+    let c7 = c6 .before in
+    let c9 = c7 .before .before in
+    let c10 = c9 .before in
+    let c19 = c10 .before .before .before .before .before .before .before .before .before in
+    let s = c19 in
+    let try-insert = c4 .try-insert in
+    absurd (never (inst s) (s .pre .0 .ranged) (s .args .insertions .now) (s .args .board) (s .pre .1) (s .args .i) (s .pre .2) (s .args .rects .now) (s .args .guide .now) (s .args .p) (s .pre .3) (on-board (c10)) _ _ _ (grain (c9)) (cut-read (c7)) (c6 .row-of .ensures) (try-insert .last .0) (try-insert .result) (try-insert .ensures) (c .enum-told .given .1))
 
 same-length-2 : tie.Need-same-length-2
 same-length-2 c = search needs
@@ -113,8 +128,18 @@ same-length-4 c = search needs
 returns-3 : tie.Need-returns-3
 unfolding instanceIn
 returns-3 c =
-    let s = c .before .before .before .before .before .before .before .before .before .before .before .before .before .before .before .before .before .before .before .before .before .before .before .before .before .before .before in
-    taken (inst s) (s .pre .0 .ranged) (s .args .insertions .now) (s .args .board) (s .pre .1) (s .args .i) (s .pre .2) (s .args .rects .now) (s .args .guide .now) (s .args .p) (s .pre .3) (on-board (c .before .before .before .before .before .before .before .before .before .before .before .before .before .before .before .before .before .before)) _ _ _ (grain (c .before .before .before .before .before .before .before .before .before .before .before .before .before .before .before .before .before)) (cut-read (c .before .before .before .before .before .before .before .before .before .before .before .before .before .before .before)) (c .before .before .before .before .before .before .before .before .before .before .before .before .before .before .row-of .ensures) (c .before .before .before .before .before .before .before .before .before .before .before .before .try-insert .last .0) (c .before .before .before .before .before .before .before .before .before .before .before .before .try-insert .result) (c .before .before .before .before .before .before .before .before .before .before .before .before .try-insert .ensures) _ _ _ _ (c .before .before .before .before .before .before .before .before .inserted .given .1) (s .args .at) (s .args .plan .now) _ _ _ (c .before .before .before .before .before .before .before .before .before .before .before .before .try-insert .kept .0 ∙ s .pre .3 .room) (c .before .before .before .before .take-piece .kept .1 .1 .0 ∙ s .pre .3 .space) (c .before .before .before .before .take-piece .ensures)
+    let c4 = c .before .before .before .before in
+    let c8 = c4 .before .before .before .before in
+    let c12 = c8 .before .before .before .before in
+    let c14 = c12 .before .before in
+    let c15 = c14 .before in
+    let c17 = c15 .before .before in
+    let c18 = c17 .before in
+    let c27 = c18 .before .before .before .before .before .before .before .before .before in
+    let s = c27 in
+    let try-insert = c12 .try-insert in
+    let take-piece = c4 .take-piece in
+    taken (inst s) (s .pre .0 .ranged) (s .args .insertions .now) (s .args .board) (s .pre .1) (s .args .i) (s .pre .2) (s .args .rects .now) (s .args .guide .now) (s .args .p) (s .pre .3) (on-board (c18)) _ _ _ (grain (c17)) (cut-read (c15)) (c14 .row-of .ensures) (try-insert .last .0) (try-insert .result) (try-insert .ensures) _ _ _ _ (c8 .inserted .given .1) (s .args .at) (s .args .plan .now) _ _ _ (try-insert .kept .0 ∙ s .pre .3 .room) (take-piece .kept .1 .1 .0 ∙ s .pre .3 .space) (take-piece .ensures)
 
 pub replay-word-spec : {M : Type 1} → statement M
 replay-word-spec =

@@ -42,7 +42,8 @@ slice-aggregate-finish-sheet-2 c = search needs
 finish-sheet-requires : tie.Need-finish-sheet-requires
 finish-sheet-requires c κs =
     let s = c .before .before .before .before .before .before .before .before .before .before .before .before .before .before .before .before in
-    finishable (inst s) (s .pre .0 .ranged) (s .args .insertions .now) (s .args .board) (s .pre .1) (s .args .at) _ _ _ (c .before .before .before .before .before .before .before .before .replay-sheet .result) _ (board-read (c .before .before .before)) (c .before .before .before .before .before .before .before .before .replay-sheet .ensures .state) (omega (arith, s .pre .2, c .before .before .before .before .before .before .before .before .replay-sheet .kept .0))
+    let replay-sheet = c .before .before .before .before .before .before .before .before .replay-sheet in
+    finishable (inst s) (s .pre .0 .ranged) (s .args .insertions .now) (s .args .board) (s .pre .1) (s .args .at) _ _ _ (replay-sheet .result) _ (board-read (c .before .before .before)) (replay-sheet .ensures .state) (omega (arith, s .pre .2, replay-sheet .kept .0))
 
 same-length : tie.Need-same-length
 same-length c = search needs
@@ -50,7 +51,8 @@ same-length c = search needs
 returns : tie.Need-returns
 returns c =
     let s = c .before .before .before .before .before .before .before .before .before .before .before .before .before .before .before .before .before .before .before in
-    c .before .before .finish-sheet .ensures .finishes (inst s .kerfWidth) (binIn (inst s) (s .args .insertions .now) (s .args .board)) (s .args .plan .now) (bin-board (inst s) (s .args .insertions .now) (s .args .board) (s .pre .1) ∙ sym (board-read (c .before .before .before .before .before .before))) (c .before .before .before .before .before .before .before .before .before .before .before .replay-sheet .ensures .state) (sym (c .before .before .before .before .before .before .before .before .before .before .before .replay-sheet .kept .0)) (c .before .before .before .before .before .before .before .before .before .before .before .replay-sheet .ensures .pieces)
+    let replay-sheet = c .before .before .before .before .before .before .before .before .before .before .before .replay-sheet in
+    c .before .before .finish-sheet .ensures .finishes (inst s .kerfWidth) (binIn (inst s) (s .args .insertions .now) (s .args .board)) (s .args .plan .now) (bin-board (inst s) (s .args .insertions .now) (s .args .board) (s .pre .1) ∙ sym (board-read (c .before .before .before .before .before .before))) (replay-sheet .ensures .state) (sym (replay-sheet .kept .0)) (replay-sheet .ensures .pieces)
 
 pub write-sheet-spec : {M : Type 1} → statement M
 write-sheet-spec =

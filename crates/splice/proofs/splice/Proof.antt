@@ -50,10 +50,12 @@ same-length c = search needs
 returns : tie.Need-returns
 returns c =
     let s = c .before .before .before .before .before .before .before .before .before .before .before in
+    let extra-nodes = c .before .before .before .before .before .before .before .before .before .extra-nodes in
+    let extra-nodes2 = c .before .before .before .before .before .before .before .before .extra-nodes2 in
     let w : List ℕ = s .args .words .now in
     let t : Subtree = s .args .subtree in
-    let extra : ℕ = c .before .before .before .before .before .before .before .before .before .extra-nodes .result + c .before .before .before .before .before .before .before .before .extra-nodes2 .result in
-    let size : length (subtreeWords t) ≡ 8 + 8 * extra = omega (arith, subtree-length t, c .before .before .before .before .before .before .before .before .before .extra-nodes .ensures, c .before .before .before .before .before .before .before .before .extra-nodes2 .ensures) in
+    let extra : ℕ = extra-nodes .result + extra-nodes2 .result in
+    let size : length (subtreeWords t) ≡ 8 + 8 * extra = omega (arith, subtree-length t, extra-nodes .ensures, extra-nodes2 .ensures) in
     let far : 8 * s .args .count + 8 * extra ≡ 8 * (s .args .count + extra) = omega arith in (
       c .before .before .put-subtree .ensures
           ∙ ap (λ (l : List ℕ). patch l (8 * s .args .at) (subtreeWords t)) (c .before .before .before .before .before .before .move-up .ensures)

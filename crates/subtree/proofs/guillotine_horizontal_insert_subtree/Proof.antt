@@ -26,7 +26,8 @@ cut-off-requires c κs =
 cut-off-requires-2 : tie.Need-cut-off-requires-2
 cut-off-requires-2 c κs =
     let s = c .before .before .before in
-    right-cuttable (s .args .kerf) (s .args .free-rect) (s .args .placed) (s .pre) (c .before .before .right-remainder .result) (top s) _ (c .before .before .right-remainder .ensures) (omega arith) refl
+    let right-remainder = c .before .before .right-remainder in
+    right-cuttable (s .args .kerf) (s .args .free-rect) (s .args .placed) (s .pre) (right-remainder .result) (top s) _ (right-remainder .ensures) (omega arith) refl
 
 piece-node-requires : tie.Need-piece-node-requires
 piece-node-requires c κs = search needs

@@ -26,7 +26,8 @@ cut-off-requires c κs =
 cut-off-requires-2 : tie.Need-cut-off-requires-2
 cut-off-requires-2 c κs =
     let s = c .before .before .before in
-    bottom-cuttable (s .args .kerf) (s .args .free-rect) (s .args .placed) (s .pre) (c .before .before .bottom-remainder .result) (left s) _ (c .before .before .bottom-remainder .ensures) (omega arith) refl
+    let bottom-remainder = c .before .before .bottom-remainder in
+    bottom-cuttable (s .args .kerf) (s .args .free-rect) (s .args .placed) (s .pre) (bottom-remainder .result) (left s) _ (bottom-remainder .ensures) (omega arith) refl
 
 piece-node-requires : tie.Need-piece-node-requires
 piece-node-requires c κs = search needs

@@ -37,22 +37,46 @@ add-equal : tie.Need-add-equal Inv-loop μ-loop
 add-equal c = search needs
 
 loop-less : tie.Need-loop-less Inv-loop μ-loop
-loop-less c = let further = c .before .before .before .before .before .part-end .ensures .2 (c .before .before .before .before .before .before .loop-test .taken) in omega (arith, c .before .before .before .before .before .part-end .ensures .1, c .before .before .before .before .part-end2 .ensures .0, c .before .before .before .before .part-end2 .ensures .1, further, c .before .before .before .before .before .before .before .loop .inv .0, c .before .before .before .before .before .before .before .loop .inv .1)
+loop-less c =
+    let l = c .before .before .before .before .before .before .before .loop in
+    let part-end = c .before .before .before .before .before .part-end in
+    let part-end2 = c .before .before .before .before .part-end2 in
+    let further = part-end .ensures .2 (c .before .before .before .before .before .before .loop-test .taken) in omega (arith, part-end .ensures .1, part-end2 .ensures .0, part-end2 .ensures .1, further, l .inv .0, l .inv .1)
 
 loop-again : tie.Need-loop-again Inv-loop μ-loop
-loop-again c = let further = c .before .before .before .before .before .part-end .ensures .2 (c .before .before .before .before .before .before .loop-test .taken) in (omega (arith, c .before .before .before .before .before .part-end .ensures .1, c .before .before .before .before .part-end2 .ensures .0, c .before .before .before .before .part-end2 .ensures .1, further, c .before .before .before .before .before .before .before .loop .inv .0, c .before .before .before .before .before .before .before .loop .inv .1), omega (arith, c .before .before .before .before .before .part-end .ensures .1, c .before .before .before .before .part-end2 .ensures .0, c .before .before .before .before .part-end2 .ensures .1, further, c .before .before .before .before .before .before .before .loop .inv .0, c .before .before .before .before .before .before .before .loop .inv .1), c .before .before .before .before .part-end2 .ensures .1)
+loop-again c =
+    let l = c .before .before .before .before .before .before .before .loop in
+    let part-end = c .before .before .before .before .before .part-end in
+    let part-end2 = c .before .before .before .before .part-end2 in
+    let further = part-end .ensures .2 (c .before .before .before .before .before .before .loop-test .taken) in (omega (arith, part-end .ensures .1, part-end2 .ensures .0, part-end2 .ensures .1, further, l .inv .0, l .inv .1), omega (arith, part-end .ensures .1, part-end2 .ensures .0, part-end2 .ensures .1, further, l .inv .0, l .inv .1), part-end2 .ensures .1)
 
 loop-less-2 : tie.Need-loop-less-2 Inv-loop μ-loop
-loop-less-2 c = let further = c .before .before .before .before .before .before .part-end .ensures .2 (c .before .before .before .before .before .before .before .loop-test .taken) in omega (arith, c .before .before .before .before .before .before .part-end .ensures .1, c .before .before .before .before .before .part-end2 .ensures .0, c .before .before .before .before .before .part-end2 .ensures .1, further, c .before .before .before .before .before .before .before .before .loop .inv .0, c .before .before .before .before .before .before .before .before .loop .inv .1)
+loop-less-2 c =
+    let l = c .before .before .before .before .before .before .before .before .loop in
+    let part-end = c .before .before .before .before .before .before .part-end in
+    let part-end2 = c .before .before .before .before .before .part-end2 in
+    let further = part-end .ensures .2 (c .before .before .before .before .before .before .before .loop-test .taken) in omega (arith, part-end .ensures .1, part-end2 .ensures .0, part-end2 .ensures .1, further, l .inv .0, l .inv .1)
 
 loop-again-2 : tie.Need-loop-again-2 Inv-loop μ-loop
-loop-again-2 c = let further = c .before .before .before .before .before .before .part-end .ensures .2 (c .before .before .before .before .before .before .before .loop-test .taken) in (omega (arith, c .before .before .before .before .before .before .part-end .ensures .1, c .before .before .before .before .before .part-end2 .ensures .0, c .before .before .before .before .before .part-end2 .ensures .1, further, c .before .before .before .before .before .before .before .before .loop .inv .0, c .before .before .before .before .before .before .before .before .loop .inv .1), omega (arith, c .before .before .before .before .before .before .part-end .ensures .1, c .before .before .before .before .before .part-end2 .ensures .0, c .before .before .before .before .before .part-end2 .ensures .1, further, c .before .before .before .before .before .before .before .before .loop .inv .0, c .before .before .before .before .before .before .before .before .loop .inv .1), c .before .before .before .before .before .part-end2 .ensures .1)
+loop-again-2 c =
+    let l = c .before .before .before .before .before .before .before .before .loop in
+    let part-end = c .before .before .before .before .before .before .part-end in
+    let part-end2 = c .before .before .before .before .before .part-end2 in
+    let further = part-end .ensures .2 (c .before .before .before .before .before .before .before .loop-test .taken) in (omega (arith, part-end .ensures .1, part-end2 .ensures .0, part-end2 .ensures .1, further, l .inv .0, l .inv .1), omega (arith, part-end .ensures .1, part-end2 .ensures .0, part-end2 .ensures .1, further, l .inv .0, l .inv .1), part-end2 .ensures .1)
 
 loop-less-3 : tie.Need-loop-less-3 Inv-loop μ-loop
-loop-less-3 c = let further = c .before .before .before .before .before .before .part-end .ensures .2 (c .before .before .before .before .before .before .before .loop-test .taken) in omega (arith, c .before .before .before .before .before .before .part-end .ensures .1, c .before .before .before .before .before .part-end2 .ensures .0, c .before .before .before .before .before .part-end2 .ensures .1, further, c .before .before .before .before .before .before .before .before .loop .inv .0, c .before .before .before .before .before .before .before .before .loop .inv .1)
+loop-less-3 c =
+    let l = c .before .before .before .before .before .before .before .before .loop in
+    let part-end = c .before .before .before .before .before .before .part-end in
+    let part-end2 = c .before .before .before .before .before .part-end2 in
+    let further = part-end .ensures .2 (c .before .before .before .before .before .before .before .loop-test .taken) in omega (arith, part-end .ensures .1, part-end2 .ensures .0, part-end2 .ensures .1, further, l .inv .0, l .inv .1)
 
 loop-again-3 : tie.Need-loop-again-3 Inv-loop μ-loop
-loop-again-3 c = let further = c .before .before .before .before .before .before .part-end .ensures .2 (c .before .before .before .before .before .before .before .loop-test .taken) in (omega (arith, c .before .before .before .before .before .before .part-end .ensures .1, c .before .before .before .before .before .part-end2 .ensures .0, c .before .before .before .before .before .part-end2 .ensures .1, further, c .before .before .before .before .before .before .before .before .loop .inv .0, c .before .before .before .before .before .before .before .before .loop .inv .1), omega (arith, c .before .before .before .before .before .before .part-end .ensures .1, c .before .before .before .before .before .part-end2 .ensures .0, c .before .before .before .before .before .part-end2 .ensures .1, further, c .before .before .before .before .before .before .before .before .loop .inv .0, c .before .before .before .before .before .before .before .before .loop .inv .1), c .before .before .before .before .before .part-end2 .ensures .1)
+loop-again-3 c =
+    let l = c .before .before .before .before .before .before .before .before .loop in
+    let part-end = c .before .before .before .before .before .before .part-end in
+    let part-end2 = c .before .before .before .before .before .part-end2 in
+    let further = part-end .ensures .2 (c .before .before .before .before .before .before .before .loop-test .taken) in (omega (arith, part-end .ensures .1, part-end2 .ensures .0, part-end2 .ensures .1, further, l .inv .0, l .inv .1), omega (arith, part-end .ensures .1, part-end2 .ensures .0, part-end2 .ensures .1, further, l .inv .0, l .inv .1), part-end2 .ensures .1)
 
 tell-requires : tie.Need-tell-requires Inv-loop μ-loop
 tell-requires c κs = search needs
