@@ -1,7 +1,7 @@
 -- Insertion i of a making, over values: what each call needs, and what the last one leaves.
 use Prim.Native.Nat.{ℕ, _+_, _*_, _≤_, _<_}
 use native.Mathlib.Omega.{arith}
-use mathlib.Core.Path.{_≡_, sym, ap, _∙_}
+use mathlib.Core.Path.{_≡_, refl, sym, ap, _∙_}
 use mathlib.Core.Bool.{Bool}
 use mathlib.Core.List.{List}
 use mathlib.Core.Option.{some}
@@ -28,9 +28,24 @@ use Rattle.guillotine.specs.Insertions.{Insertable, InsertsInto, Inserts}
 use Rattle.candidate.specs.Entries.{boardOf, cutOf, rowOf}
 use Rattle.candidate.specs.Stands.{boardIn, cutIn, insertionIn, binIn, noCut}
 use Rattle.sheet_plan.specs.declared.Progress.{Progress}
-use Rattle.sheet_plan.specs.Replaying.{newPieces, Replayed, Rebuildable, Takeable, Takes, ReplaysWord, ReplaysSheet, Finishable}
+use Rattle.sheet_plan.specs.Replaying.{newPieces, Replayed, Rebuildable, Takeable, Takes, TakeableIn, TakesIn, ReplaysWord, ReplaysSheet, Finishable}
 use Rattle.sheet_plan.proofs.Making.{begins, bin-pieces, begun-pieces, bin-board, bin-bounded, step-on, step-off, kept-pieces, cut-known, first-bin, last-bin}
 use Rattle.sheet_plan.proofs.Steps.{no-piece, insertable, not-nothing, takeable, written, replayed, pieces-more}
+
+-- ---- an insertion by its case
+
+takeable-in : (at : ℕ) (plan g : List ℕ) (p : Progress) (res : Inserted) → (res ≡ inserted.Nothing → ⊥)
+    → ((k : ℕ) (fr : Rect) (f : FitResult) (merged : Bool) → res ≡ inserted.At k fr f merged → Takeable at plan g fr f p) → TakeableIn at plan g res p
+takeable-in at plan g p inserted.Nothing never may = never refl
+takeable-in at plan g p (inserted.At k fr f merged) never may = may k fr f merged refl
+
+takes-in : (at kerf : ℕ) (cut : CutInstance) (h : BaselineGuillotineHeuristic) (p : Progress) (plan plan′ g g′ : List ℕ) (q : Progress) (res : Inserted)
+    → TakesIn at kerf cut h res p plan plan′ g g′ q → (Goal : Type 0)
+    → ((k : ℕ) (fr : Rect) (f : FitResult) (merged : Bool) → res ≡ inserted.At k fr f merged → Takes at kerf cut h fr f merged p plan plan′ g g′ q → Goal) → Goal
+takes-in at kerf cut h p plan plan′ g g′ q inserted.Nothing takes Goal by = absurd takes
+takes-in at kerf cut h p plan plan′ g g′ q (inserted.At k fr f merged) takes Goal by = by k fr f merged refl takes
+
+-- ---- one insertion
 
 module _ (inst : ProblemInstance) (r : Ranged inst) (words : List ℕ) (b : ℕ) (m : Rebuildable inst words b) (i : ℕ) (h : i < length words)
     (w g : List ℕ) (p : Progress) (state : Replayed (inst .kerfWidth) (binIn inst (take i words) b) w g p) where
@@ -83,17 +98,17 @@ module _ (inst : ProblemInstance) (r : Ranged inst) (words : List ℕ) (b : ℕ)
         unfolding insertion
         into q e = rw e at (ends s shown)
 
-        pub never : res ≡ inserted.Nothing → ⊥
+        never : res ≡ inserted.Nothing → ⊥
         never e = not-nothing (inst .kerfWidth) s t insertion w g p state bounded step w′ (into inserted.Nothing e)
 
         module _ (k : ℕ) (fr : Rect) (f : FitResult) (merged : Bool) (e : res ≡ inserted.At k fr f merged) (at : ℕ) (plan : List ℕ) where
-          pub may-take : at + 9 * length (binIn inst words b .placedPieces) ≤ length plan → Takeable at plan g fr f p
+          may-take : at + 9 * length (binIn inst words b .placedPieces) ≤ length plan → Takeable at plan g fr f p
           unfolding insertion
           may-take fits =
               takeable (inst .kerfWidth) s t insertion w g p state bounded step w′ k fr f merged (into (inserted.At k fr f merged) e) at plan panel
               (omega (arith, begun-pieces inst words b m (i + 1))) (omega (arith, begun-pieces inst words b m (i + 1), bin-pieces inst words b m, m .few))
 
-          pub taken : (plan′ g′ : List ℕ) (q : Progress) → length w′ ≡ 261 → length g′ ≡ 2056 → Takes at (inst .kerfWidth) cut row fr f merged p plan plan′ g g′ q
+          taken : (plan′ g′ : List ℕ) (q : Progress) → length w′ ≡ 261 → length g′ ≡ 2056 → Takes at (inst .kerfWidth) cut row fr f merged p plan plan′ g g′ q
               → ReplaysWord inst words b i at plan plan′ w′ g′ q
           unfolding insertion
           taken plan′ g′ q size space takes =
@@ -101,6 +116,15 @@ module _ (inst : ProblemInstance) (r : Ranged inst) (words : List ℕ) (b : ℕ)
                 state = replayed (inst .kerfWidth) s t insertion w g p state bounded step w′ k fr f merged (into (inserted.At k fr f merged) e) at plan plan′ g′ q takes size space;
                 pieces = written (inst .kerfWidth) s t insertion w g p state bounded step w′ k fr f merged (into (inserted.At k fr f merged) e) at plan plan′ g′ q takes;
               }
+
+        -- the piece of an insertion that finds its place
+        pub room-for : (at : ℕ) (plan : List ℕ) → at + 9 * length (binIn inst words b .placedPieces) ≤ length plan → TakeableIn at plan g res p
+        room-for at plan fits = takeable-in at plan g p res never (λ k fr f merged e. may-take k fr f merged e at plan fits)
+
+        pub done : (at : ℕ) (plan plan′ g′ : List ℕ) (q : Progress) → length w′ ≡ 261 → length g′ ≡ 2056 → TakesIn at (inst .kerfWidth) cut row res p plan plan′ g g′ q
+            → ReplaysWord inst words b i at plan plan′ w′ g′ q
+        done at plan plan′ g′ q size space takes =
+            takes-in at (inst .kerfWidth) cut row p plan plan′ g g′ q res takes (ReplaysWord inst words b i at plan plan′ w′ g′ q) (λ k fr f merged e one. taken k fr f merged e at plan plan′ g′ q size space one)
 
 -- ---- the whole making
 

@@ -22,6 +22,8 @@ use Rattle.model.specs.Plan.{pieceWords, sheetWords}
 use Rattle.trust.proofs.Ranges.{BoardRange}
 use Rattle.trust.proofs.Bounded.{Bounded}
 use Rattle.rect_words.specs.SheetWords.{rectsIn, Shows}
+use Rattle.guillotine.specs.declared.Inserted.{Inserted}
+use Rattle.guillotine.specs.declared.Inserted.the-variants as inserted
 use Rattle.guillotine.specs.Insertions.{Ready}
 use Rattle.subtree.specs.Words.{InCorner}
 use Rattle.guide.specs.Words.{Holds, Guided, Becomes, nextGuide}
@@ -75,6 +77,15 @@ pub record Takes (at kerf : ℕ) (cut : CutInstance) (h : BaselineGuillotineHeur
   pub nodes : Becomes guide guide′ (p .nodes) (q .nodes) (nextGuide merged (splitDirection freeRect (fit .rect) (h .split)) kerf freeRect (fit .rect) cut)
   pub pieces : q .pieces ≡ p .pieces + 1
   pub placed : q .placed ≡ p .placed + area (fit .rect)
+
+-- the same of an insertion, which found a place
+abbrev pub TakeableIn : ℕ → List ℕ → List ℕ → Inserted → Progress → Type 0
+TakeableIn at plan guide inserted.Nothing p = ⊥
+TakeableIn at plan guide (inserted.At index freeRect fit merged) p = Takeable at plan guide freeRect fit p
+
+abbrev pub TakesIn : ℕ → ℕ → CutInstance → BaselineGuillotineHeuristic → Inserted → Progress → List ℕ → List ℕ → List ℕ → List ℕ → Progress → Type 0
+TakesIn at kerf cut h inserted.Nothing p plan plan′ guide guide′ q = ⊥
+TakesIn at kerf cut h (inserted.At index freeRect fit merged) p plan plan′ guide guide′ q = Takes at kerf cut h freeRect fit merged p plan plan′ guide guide′ q
 
 -- ---- insertions
 

@@ -13,7 +13,7 @@ ghost use lib.ListN.{length, take};
 ghost use Rattle.model.specs.Sheet.{newSheet};
 ghost use Rattle.model.specs.Plan.{sheetWords};
 ghost use Rattle.candidate.specs.Stands.{instanceIn, Tables, binIn};
-ghost use Rattle.sheet_plan.specs.Replaying.{Replayed, Boardable, Rebuildable, Takeable, Takes, ReplaysWord, ReplaysSheet, WritesSheet, Finishable, Finishes};
+ghost use Rattle.sheet_plan.specs.Replaying.{Replayed, Boardable, Rebuildable, Takeable, Takes, TakeableIn, TakesIn, ReplaysWord, ReplaysSheet, WritesSheet, Finishable, Finishes};
 
 // ---- a sheet made again
 
@@ -86,6 +86,42 @@ fn take_piece(
     }
 }
 
+// What an insertion that found a place put there.
+fn take_inserted(
+    plan: &mut [u32],
+    at: usize,
+    guide: &mut [u32],
+    kerf_width: u32,
+    cut: CutInstance,
+    h: BaselineGuillotineHeuristic,
+    inserted: Inserted,
+    p: Progress,
+) -> Progress
+    requires { ⌜ TakeableIn at (now plan) (now guide) inserted p ⌝ }
+    ensures { λ r. ⌜ TakesIn at «kerf_width» cut h inserted p (now (plan .entry)) (now (plan .exit)) (now (guide .entry)) (now (guide .exit)) r ⌝ }
+{
+    match inserted {
+        Inserted::Nothing => p,
+        Inserted::At {
+            index: _,
+            free_rect,
+            fit,
+            merged,
+        } => take_piece(
+            plan,
+            at,
+            guide,
+            kerf_width,
+            cut,
+            h,
+            free_rect,
+            fit,
+            merged,
+            p,
+        ),
+    }
+}
+
 // Insertion i: only those on the board are the sheet's.
 fn replay_word(
     plan: &mut [u32],
@@ -114,26 +150,7 @@ fn replay_word(
     let h = candidate::row_of(word);
     let pattern = s.pattern;
     let inserted = guillotine::try_insert(rects, n.kerf_width, pattern, cut, h);
-    match inserted {
-        Inserted::Nothing => p,
-        Inserted::At {
-            index: _,
-            free_rect,
-            fit,
-            merged,
-        } => take_piece(
-            plan,
-            at,
-            guide,
-            n.kerf_width,
-            cut,
-            h,
-            free_rect,
-            fit,
-            merged,
-            p,
-        ),
-    }
+    take_inserted(plan, at, guide, n.kerf_width, cut, h, inserted, p)
 }
 
 // The whole making, from the bare board.

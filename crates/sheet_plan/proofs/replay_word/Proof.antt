@@ -11,7 +11,7 @@ use Rattle.candidate.specs.Entries.{boardOf, cutOf}
 use Rattle.candidate.specs.Stands.{instanceIn, boardIn, cutIn}
 use Rattle.candidate.proofs.Instances.{cut-count, cut-in}
 use Rattle.sheet_plan.proofs.Making.{cut-known, row-within, row-is}
-use Rattle.sheet_plan.proofs.Turns.{passed, ready, never, may-take, taken}
+use Rattle.sheet_plan.proofs.Turns.{passed, ready, room-for, done}
 use Rattle.sheet_plan.proofs.replay_word.Statement.{statement}
 use Rattle.sheet_plan.proofs.replay_word.Tie as tie
 
@@ -80,41 +80,20 @@ try-insert-requires : tie.Need-try-insert-requires
 unfolding instanceIn
 try-insert-requires c κs = let s = c .before .before .before .before .before .before .before .before .before .before .before .before .before .before in ready (inst s) (s .pre .0 .ranged) (s .args .insertions .now) (s .args .board) (s .pre .1) (s .args .i) (s .pre .2) (s .args .rects .now) (s .args .guide .now) (s .args .p) (s .pre .3) (on-board (c .before .before .before .before .before))
 
-enum-told : tie.Need-enum-told
-enum-told c = search needs
-
-enum-known-inserted : tie.Need-enum-known-inserted
-enum-known-inserted c = search needs
-
-take-piece-requires : tie.Need-take-piece-requires
+take-inserted-requires : tie.Need-take-inserted-requires
 unfolding instanceIn
-take-piece-requires c κs =
-    let c3 = c .before .before .before in
-    let c7 = c3 .before .before .before .before in
-    let c9 = c7 .before .before in
-    let c10 = c9 .before in
-    let c12 = c10 .before .before in
-    let c13 = c12 .before in
-    let c22 = c13 .before .before .before .before .before .before .before .before .before in
-    let s = c22 in
-    let try-insert = c7 .try-insert in
-    may-take (inst s) (s .pre .0 .ranged) (s .args .insertions .now) (s .args .board) (s .pre .1) (s .args .i) (s .pre .2) (s .args .rects .now) (s .args .guide .now) (s .args .p) (s .pre .3) (on-board (c13)) _ _ _ (grain (c12)) (cut-read (c10)) (c9 .row-of .ensures) (try-insert .last .0) (try-insert .result) (try-insert .ensures) _ _ _ _ (c3 .inserted .given .1) (s .args .at) (s .args .plan .now) (s .pre .4)
+take-inserted-requires c κs =
+    let tried = c .before .before .before .before in
+    let way = tried .before .before in
+    let known = way .before in
+    let read = known .before .before in
+    let on = read .before in
+    let s = on .before .before .before .before .before .before .before .before .before in
+    room-for (inst s) (s .pre .0 .ranged) (s .args .insertions .now) (s .args .board) (s .pre .1) (s .args .i) (s .pre .2) (s .args .rects .now) (s .args .guide .now) (s .args .p) (s .pre .3) (on-board on) _ _ _
+    (grain read) (cut-read known) (way .row-of .ensures) (tried .try-insert .last .0) (tried .try-insert .result) (tried .try-insert .ensures) (s .args .at) (s .args .plan .now) (s .pre .4)
 
 same-length : tie.Need-same-length
 same-length c = search needs
-
-returns-2 : tie.Need-returns-2
-unfolding instanceIn
-returns-2 c =
-    let c4 = c .before .before .before .before in
-    let c6 = c4 .before .before in
-    let c7 = c6 .before in
-    let c9 = c7 .before .before in
-    let c10 = c9 .before in
-    let c19 = c10 .before .before .before .before .before .before .before .before .before in
-    let s = c19 in
-    let try-insert = c4 .try-insert in
-    absurd (never (inst s) (s .pre .0 .ranged) (s .args .insertions .now) (s .args .board) (s .pre .1) (s .args .i) (s .pre .2) (s .args .rects .now) (s .args .guide .now) (s .args .p) (s .pre .3) (on-board (c10)) _ _ _ (grain (c9)) (cut-read (c7)) (c6 .row-of .ensures) (try-insert .last .0) (try-insert .result) (try-insert .ensures) (c .enum-told .given .1))
 
 same-length-2 : tie.Need-same-length-2
 same-length-2 c = search needs
@@ -122,24 +101,19 @@ same-length-2 c = search needs
 same-length-3 : tie.Need-same-length-3
 same-length-3 c = search needs
 
-same-length-4 : tie.Need-same-length-4
-same-length-4 c = search needs
-
-returns-3 : tie.Need-returns-3
+returns-2 : tie.Need-returns-2
 unfolding instanceIn
-returns-3 c =
-    let c4 = c .before .before .before .before in
-    let c8 = c4 .before .before .before .before in
-    let c12 = c8 .before .before .before .before in
-    let c14 = c12 .before .before in
-    let c15 = c14 .before in
-    let c17 = c15 .before .before in
-    let c18 = c17 .before in
-    let c27 = c18 .before .before .before .before .before .before .before .before .before in
-    let s = c27 in
-    let try-insert = c12 .try-insert in
-    let take-piece = c4 .take-piece in
-    taken (inst s) (s .pre .0 .ranged) (s .args .insertions .now) (s .args .board) (s .pre .1) (s .args .i) (s .pre .2) (s .args .rects .now) (s .args .guide .now) (s .args .p) (s .pre .3) (on-board (c18)) _ _ _ (grain (c17)) (cut-read (c15)) (c14 .row-of .ensures) (try-insert .last .0) (try-insert .result) (try-insert .ensures) _ _ _ _ (c8 .inserted .given .1) (s .args .at) (s .args .plan .now) _ _ _ (try-insert .kept .0 ∙ s .pre .3 .room) (take-piece .kept .1 .1 .0 ∙ s .pre .3 .space) (take-piece .ensures)
+returns-2 c =
+    let tried = c .before .before .before .before .before .before .before .before .before in
+    let way = tried .before .before in
+    let known = way .before in
+    let read = known .before .before in
+    let on = read .before in
+    let s = on .before .before .before .before .before .before .before .before .before in
+    let take-inserted = c .before .before .before .before .take-inserted in
+    done (inst s) (s .pre .0 .ranged) (s .args .insertions .now) (s .args .board) (s .pre .1) (s .args .i) (s .pre .2) (s .args .rects .now) (s .args .guide .now) (s .args .p) (s .pre .3) (on-board on) _ _ _
+    (grain read) (cut-read known) (way .row-of .ensures) (tried .try-insert .last .0) (tried .try-insert .result) (tried .try-insert .ensures) (s .args .at) (s .args .plan .now)
+    _ _ _ (tried .try-insert .kept .0 ∙ s .pre .3 .room) (take-inserted .kept .1 .1 .0 ∙ s .pre .3 .space) (take-inserted .ensures)
 
 pub replay-word-spec : {M : Type 1} → statement M
 replay-word-spec =
@@ -155,12 +129,8 @@ replay-word-spec =
     cut-at-requires
     row-of-requires
     try-insert-requires
-    enum-told
-    enum-known-inserted
-    take-piece-requires
+    take-inserted-requires
     same-length
-    returns-2
     same-length-2
     same-length-3
-    same-length-4
-    returns-3)
+    returns-2)
