@@ -2,7 +2,9 @@
 use candidate::Instance;
 use instances::CutTable;
 use model::OptimizerEffort;
+use prefilter::Feasibility;
 use refusals::Checked;
+use refusals::Refusal;
 ghost use mathlib.Core.Path.{_≡_};
 ghost use mathlib.Core.Option.{none};
 ghost use Prim.Native.Nat.{_≤_};
@@ -14,6 +16,7 @@ ghost use Rattle.model.specs.Expand.{expandProject};
 ghost use Rattle.model.specs.Answer.{prefilter};
 ghost use Rattle.model.specs.Outcome.{leastWorkspace, leastPlan, cleared};
 ghost use Rattle.rows.specs.Rows.{cutWords, cutRow};
+ghost use Rattle.refusals.specs.Answers.{refusalNumber};
 ghost use Rattle.instances.specs.Tables.{Holds};
 ghost use Rattle.candidate.specs.Stands.{instanceIn, Tables};
 ghost use Rattle.optimizer.specs.Promise.{numberOf, Searches, Promise};
@@ -82,8 +85,9 @@ fn search_plan(
 {
     let feasible = prefilter::basic_feasibility_prefilter(stock, cuts, inst);
     match feasible {
-        Checked::Refused(n) => Answer::Refused(n),
-        Checked::Passed => find_plan(workspace, plan, stock, cuts, inst, effort),
+        Feasibility::CutFitsNoStock => Answer::Refused(15),
+        Feasibility::CutAreaTooLarge => Answer::Refused(16),
+        Feasibility::Feasible => find_plan(workspace, plan, stock, cuts, inst, effort),
     }
 }
 
@@ -126,6 +130,27 @@ fn optimize_project(file: &[u8], workspace: &mut [u32], plan: &mut [u32]) -> Ans
     answer
 }
 
+// Document 01's number of what refuses a file.
+fn refusal_number(refusal: Refusal) -> u32
+    ensures { λ r. ⌜ r ≡ refusalNumber refusal ⌝ }
+{
+    match refusal {
+        Refusal::NotWellFormed => 2,
+        Refusal::BadSettings => 3,
+        Refusal::LargeKerf => 4,
+        Refusal::BadCodes => 5,
+        Refusal::ZeroSide => 6,
+        Refusal::LargeSide => 7,
+        Refusal::UnlimitedStock => 8,
+        Refusal::RepeatedId => 9,
+        Refusal::TooManyStockInstances => 10,
+        Refusal::ZeroQuantity => 11,
+        Refusal::TooManyCutInstances => 12,
+        Refusal::NoStock => 13,
+        Refusal::NestedLayout => 14,
+    }
+}
+
 // From any bytes, in any lent memory, to a plan or one numbered refusal.
 pub fn optimize(file: &[u8], workspace: &mut [u32], plan: &mut [u32]) -> Answer
     ensures { λ r. ⌜ Promise (now (file .entry)) (now (workspace .entry)) (now (plan .entry)) (numberOf r) (now (workspace .exit)) (now (plan .exit)) ⌝ }
@@ -138,7 +163,7 @@ pub fn optimize(file: &[u8], workspace: &mut [u32], plan: &mut [u32]) -> Answer
     }
     let checked = refusals::check_project(file);
     match checked {
-        Checked::Refused(n) => Answer::Refused(n),
+        Checked::Refused(refusal) => Answer::Refused(refusal_number(refusal)),
         Checked::Passed => optimize_project(file, workspace, plan),
     }
 }

@@ -1,7 +1,6 @@
 // What is tested before the search: `basic_feasibility_prefilter` of the optimizer, refusals 15 and 16.
 use candidate::Instance;
 use model::CutInstance;
-use refusals::Checked;
 ghost use mathlib.Core.Path.{_≡_};
 ghost use mathlib.Core.List.{map};
 ghost use Prim.Native.Nat.{_*_, _≤_, _<_, _^_};
@@ -9,9 +8,8 @@ ghost use lib.ListN.{length};
 ghost use Rattle.lists.specs.Base.{all, sum, range};
 ghost use Rattle.model.specs.Answer.{prefilter};
 ghost use Rattle.rows.specs.Rows.{stockWords, cutWords, cutAt};
-ghost use Rattle.refusals.specs.Answers.{refusalOf};
 ghost use Rattle.candidate.specs.Stands.{instanceIn, Tables};
-ghost use Rattle.prefilter.specs.Rows.{fitsAny, rowArea};
+ghost use Rattle.prefilter.specs.Rows.{fitsAny, rowArea, refusalOf};
 
 // Whether the cut fits a board of the table.
 fn fits_any(stock: &[u32], boards: usize, cut: CutInstance) -> bool
@@ -62,17 +60,23 @@ fn total_area(table: &[u32], stride: usize, count: usize) -> u64
     total
 }
 
-pub fn basic_feasibility_prefilter(stock: &[u32], cuts: &[u32], inst: Instance) -> Checked
+pub enum Feasibility {
+    Feasible,
+    CutFitsNoStock,
+    CutAreaTooLarge,
+}
+
+pub fn basic_feasibility_prefilter(stock: &[u32], cuts: &[u32], inst: Instance) -> Feasibility
     requires { ⌜ Tables (now stock) (now cuts) inst ⌝ }
     ensures { λ r. ⌜ refusalOf r ≡ prefilter (instanceIn (now (stock .entry)) (now (cuts .entry)) inst) ⌝ }
 {
     if !all_fit(stock, cuts, inst) {
-        return Checked::Refused(15);
+        return Feasibility::CutFitsNoStock;
     }
     let boards = total_area(stock, rows::STOCK_WORDS, inst.stock);
     let panels = total_area(cuts, rows::CUT_WORDS, inst.cuts);
     if boards < panels {
-        return Checked::Refused(16);
+        return Feasibility::CutAreaTooLarge;
     }
-    Checked::Passed
+    Feasibility::Feasible
 }

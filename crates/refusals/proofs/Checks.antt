@@ -24,6 +24,20 @@ or-true a b r e h = ap (λ (x : Bool). x || b) (sym h ∙ e)
 pub or-false : (a b r s : Bool) → r ≡ a → r ≡ false → s ≡ b → s ≡ (a || b)
 or-false a b r s e h f = f ∙ ap (λ (x : Bool). x || b) (sym h ∙ e)
 
+-- ---- the first row of a table
+
+pub applies : (n : ℕ) (b : Bool) (cs : List Check) → b ≡ true → firstThatApplies ((n, b) ∷ cs) ≡ some n
+unfolding firstThatApplies
+applies n b cs h = ap (λ (x : Bool). (if x then some n else none) <|> firstThatApplies cs) h
+
+pub passes : (n : ℕ) (b : Bool) (cs : List Check) → b ≡ false → firstThatApplies ((n, b) ∷ cs) ≡ firstThatApplies cs
+unfolding firstThatApplies
+passes n b cs h = ap (λ (x : Bool). (if x then some n else none) <|> firstThatApplies cs) h
+
+pub no-row : firstThatApplies [] ≡ none
+unfolding firstThatApplies
+no-row = refl
+
 -- ---- an id among those before
 
 module _ (bytes : List ℕ) (base id : ℕ) where

@@ -6,14 +6,31 @@ use mathlib.Core.Option.{Option, none, some}
 use lib.Dec.{ltb, eqb}
 use Rattle.model.specs.Project.{Project}
 use Rattle.model.specs.Refusal.{RecordRule, stockRule, cutRule}
+use Rattle.refusals.specs.declared.Refusal.{Refusal}
 use Rattle.refusals.specs.declared.Checked.{Checked}
 use Rattle.project.specs.declared.Kind.{Kind}
 use Rattle.project.specs.Records.{recordAt}
 
+-- document 01's number of each refusal
+abbrev pub refusalNumber : Refusal → ℕ
+refusalNumber Refusal.NotWellFormed = 2
+refusalNumber Refusal.BadSettings = 3
+refusalNumber Refusal.LargeKerf = 4
+refusalNumber Refusal.BadCodes = 5
+refusalNumber Refusal.ZeroSide = 6
+refusalNumber Refusal.LargeSide = 7
+refusalNumber Refusal.UnlimitedStock = 8
+refusalNumber Refusal.RepeatedId = 9
+refusalNumber Refusal.TooManyStockInstances = 10
+refusalNumber Refusal.ZeroQuantity = 11
+refusalNumber Refusal.TooManyCutInstances = 12
+refusalNumber Refusal.NoStock = 13
+refusalNumber Refusal.NestedLayout = 14
+
 -- the number of the refusal, if there is one
 abbrev pub refusalOf : Checked → Option ℕ
 refusalOf Checked.Passed = none
-refusalOf (Checked.Refused n) = some n
+refusalOf (Checked.Refused r) = some (refusalNumber r)
 
 -- the rows of a record of a kind
 abbrev pub ruleOf : Kind → RecordRule

@@ -11,7 +11,7 @@ ghost use Rattle.lists.specs.Base.{any, _<|>_};
 ghost use Rattle.model.specs.Project.{projectOf, wellFormed, bodyLength, recordLength, startOf, lengthOf, settingsEntry, stockEntry, settingsStart, settingsLength, stockStart};
 ghost use Rattle.model.specs.Refusal.{badCodes, zeroSide, largeSide, unlimited, firstThatApplies, stockRule, cutRule, settingsChecks, recordChecks, wholeChecks, projectChecks, fileRefusal};
 ghost use Rattle.project.specs.Records.{pieceOf, recordAt, recordsFrom};
-ghost use Rattle.refusals.specs.Answers.{refusalOf, ruleOf, badSettings, idsBefore};
+ghost use Rattle.refusals.specs.Answers.{refusalNumber, refusalOf, ruleOf, badSettings, idsBefore};
 
 // The largest side and kerf, and the most instances of a kind.
 const MOST_SIDE: u32 = 1_000_000;
@@ -20,9 +20,26 @@ const MOST_INSTANCES: u64 = 64;
 
 // ---- answers
 
+// Why a file is refused, in the order of document 01's numbers, 2 to 14 (`refusalNumber`).
+pub enum Refusal {
+    NotWellFormed,
+    BadSettings,
+    LargeKerf,
+    BadCodes,
+    ZeroSide,
+    LargeSide,
+    UnlimitedStock,
+    RepeatedId,
+    TooManyStockInstances,
+    ZeroQuantity,
+    TooManyCutInstances,
+    NoStock,
+    NestedLayout,
+}
+
 pub enum Checked {
     Passed,
-    Refused(u32),
+    Refused(Refusal),
 }
 
 fn or_else(first: Checked, second: Checked) -> Checked
@@ -30,7 +47,7 @@ fn or_else(first: Checked, second: Checked) -> Checked
 {
     match first {
         Checked::Passed => second,
-        Checked::Refused(n) => Checked::Refused(n),
+        Checked::Refused(refusal) => Checked::Refused(refusal),
     }
 }
 
@@ -73,36 +90,36 @@ fn large_side(p: RawPiece) -> bool
     p.width > MOST_SIDE || p.length > MOST_SIDE
 }
 
-// The rows of a record's table: those that both kinds have, and two with numbers of the kind's own.
+// The rows of a record's table: those that both kinds have, and two of the kind's own.
 fn first_row(
     codes: bool,
     zero: bool,
     large: bool,
-    number: u32,
+    own_refusal: Refusal,
     own: bool,
     used: bool,
-    last: u32,
+    over_refusal: Refusal,
     over: bool,
 ) -> Checked
-    ensures { λ r. ⌜ refusalOf r ≡ firstThatApplies ((5, codes) ∷ (6, zero) ∷ (7, large) ∷ (number, own) ∷ (9, used) ∷ (last, over) ∷ []) ⌝ }
+    ensures { λ r. ⌜ refusalOf r ≡ firstThatApplies ((5, codes) ∷ (6, zero) ∷ (7, large) ∷ (refusalNumber «own_refusal», own) ∷ (9, used) ∷ (refusalNumber «over_refusal», over) ∷ []) ⌝ }
 {
     if codes {
-        return Checked::Refused(5);
+        return Checked::Refused(Refusal::BadCodes);
     }
     if zero {
-        return Checked::Refused(6);
+        return Checked::Refused(Refusal::ZeroSide);
     }
     if large {
-        return Checked::Refused(7);
+        return Checked::Refused(Refusal::LargeSide);
     }
     if own {
-        return Checked::Refused(number);
+        return Checked::Refused(own_refusal);
     }
     if used {
-        return Checked::Refused(9);
+        return Checked::Refused(Refusal::RepeatedId);
     }
     if over {
-        return Checked::Refused(last);
+        return Checked::Refused(over_refusal);
     }
     Checked::Passed
 }
@@ -137,20 +154,20 @@ fn check_record(kind: Kind, file: &[u8], base: usize, i: usize, count: u64) -> C
             bad_stock_codes(p),
             zero,
             large,
-            8,
+            Refusal::UnlimitedStock,
             p.flag == 0,
             used,
-            10,
+            Refusal::TooManyStockInstances,
             over,
         ),
         Kind::Cut => first_row(
             bad_codes(p),
             zero,
             large,
-            11,
+            Refusal::ZeroQuantity,
             p.quantity == 0,
             used,
-            12,
+            Refusal::TooManyCutInstances,
             over,
         ),
     }
@@ -172,8 +189,8 @@ fn check_records(kind: Kind, file: &[u8], base: usize, n: usize) -> Checked
                     base + project::RECORD_LENGTH * i + project::QUANTITY_FIELD,
                 ) as u64;
             }
-            Checked::Refused(number) => {
-                return Checked::Refused(number);
+            Checked::Refused(refusal) => {
+                return Checked::Refused(refusal);
             }
         }
         i += 1;
@@ -261,10 +278,10 @@ fn check_settings(file: &[u8]) -> Checked
     ensures { λ r. ⌜ refusalOf r ≡ firstThatApplies (settingsChecks (projectOf (now (file .entry)))) ⌝ }
 {
     if bad_settings(file) {
-        return Checked::Refused(3);
+        return Checked::Refused(Refusal::BadSettings);
     }
     if numbers::number_4(file, project::KERF_AT) > MOST_SIDE {
-        return Checked::Refused(4);
+        return Checked::Refused(Refusal::LargeKerf);
     }
     Checked::Passed
 }
@@ -304,10 +321,10 @@ fn check_whole(file: &[u8]) -> Checked
         return Checked::Passed;
     }
     if project::total_quantity(file, project::STOCK_START, project::stock_records(file)) == 0 {
-        return Checked::Refused(13);
+        return Checked::Refused(Refusal::NoStock);
     }
     if numbers::number_1(file, project::LAYOUT_AT) == 1 {
-        return Checked::Refused(14);
+        return Checked::Refused(Refusal::NestedLayout);
     }
     Checked::Passed
 }
@@ -328,7 +345,7 @@ pub fn check_project(file: &[u8]) -> Checked
     ensures { λ r. ⌜ refusalOf r ≡ fileRefusal (now (file .entry)) ⌝ }
 {
     if !well_formed(file) {
-        return Checked::Refused(2);
+        return Checked::Refused(Refusal::NotWellFormed);
     }
     check_contents(file)
 }

@@ -1,6 +1,7 @@
 -- `optimizer::optimize` meets its contract: each way out by its law.
 use mathlib.Core.Path.{sym, ap, _∙_}
 use mathlib.Core.Logic.{inl, inr}
+use mathlib.Core.Option.{some}
 use Rattle.refusals.specs.Answers.{refusalOf}
 use Rattle.optimizer.proofs.Ends.{end-small, end-file}
 use borrow.Author.Needs.{needs}
@@ -23,6 +24,9 @@ check-project-requires c κs = search needs
 enum-known-checked : tie.Need-enum-known-checked
 enum-known-checked c = search needs
 
+refusal-number-requires : tie.Need-refusal-number-requires
+refusal-number-requires c κs = search needs
+
 enum-told : tie.Need-enum-told
 enum-told c = search needs
 
@@ -31,8 +35,9 @@ optimize-project-requires c κs = (sym (c .before .before .before .before .check
 
 returns-3 : tie.Need-returns-3
 returns-3 c =
-    let s = c .before .before .before .before .before .before .before .before .before in
-    end-file (s .args .file .now) (s .args .workspace .now) (s .args .plan .now) (c .before .before .before .before .before .if1 .left) (c .before .before .before .before .if2 .left) _ (sym (c .before .before .before .check-project .ensures) ∙ ap refusalOf (c .before .checked .given .1))
+    let s = c .before .before .before .before .before .before .before .before .before .before in
+    let refusal = sym (c .before .before .before .before .check-project .ensures) ∙ ap refusalOf (c .before .before .checked .given .1) ∙ ap some (sym (c .refusal-number .ensures)) in
+    end-file (s .args .file .now) (s .args .workspace .now) (s .args .plan .now) (c .before .before .before .before .before .before .if1 .left) (c .before .before .before .before .before .if2 .left) _ refusal
 
 same-length : tie.Need-same-length
 same-length c = search needs
@@ -51,6 +56,7 @@ optimize-spec =
     returns-2
     check-project-requires
     enum-known-checked
+    refusal-number-requires
     enum-told
     optimize-project-requires
     returns-3
