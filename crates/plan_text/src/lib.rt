@@ -26,10 +26,10 @@ fn wide(word: u32) -> u64
     word as u64
 }
 
-fn count(word: u32) -> usize
-    ensures { λ r. ⌜ r ≡ word ⌝ }
+fn count_at(words: &[u32], k: usize) -> usize
+    ensures { λ r. ⌜ (r ≡ getD (now (words .entry)) k 0) × (r < 2 ^ 32) ⌝ }
 {
-    word as usize
+    word(words, k) as usize
 }
 
 // A u64 in two words, low then high.
@@ -156,9 +156,9 @@ fn put_sheet(body: &[u32], out: &mut [u8], at: usize) -> usize
     requires { ⌜ at ≤ length (now out) ⌝ }
     ensures { λ r. ⌜ Appended (now (out .entry)) at (sheetText (sheetIn (now (body .entry)))) (now (out .exit)) r ⌝ }
 {
-    let pieces = count(word(body, 7));
-    let waste = count(word(body, 8));
-    let nodes = count(word(body, 9));
+    let pieces = count_at(body, 7);
+    let waste = count_at(body, 8);
+    let nodes = count_at(body, 9);
     let headed = id_line(b"sheet", body, 0, 5, out, at);
     let placed = put_rows(Part::Piece, body, 10, pieces, out, headed);
     let left = put_rows(Part::Waste, body, 10 + 9 * pieces, waste, out, placed);

@@ -1,29 +1,18 @@
 -- `plan_text::put_sheet` meets its contract: the parts of a body one after the other.
-use native.Mathlib.Omega.{arith}
-use mathlib.Core.Path.{_∙_}
 use Rattle.append.proofs.Laws.{appended-then, appended-is}
 use Rattle.plan_text.proofs.Laws.{sheet-text}
 use borrow.Author.Needs.{needs}
 use Rattle.plan_text.proofs.put_sheet.Statement.{statement}
 use Rattle.plan_text.proofs.put_sheet.Tie as tie
 
-word-requires : tie.Need-word-requires
-word-requires c κs = search needs
+count-at-requires : tie.Need-count-at-requires
+count-at-requires c κs = search needs
 
-count-requires : tie.Need-count-requires
-count-requires c κs = search needs
+count-at-requires-2 : tie.Need-count-at-requires-2
+count-at-requires-2 c κs = search needs
 
-word-requires-2 : tie.Need-word-requires-2
-word-requires-2 c κs = search needs
-
-count-requires-2 : tie.Need-count-requires-2
-count-requires-2 c κs = search needs
-
-word-requires-3 : tie.Need-word-requires-3
-word-requires-3 c κs = search needs
-
-count-requires-3 : tie.Need-count-requires-3
-count-requires-3 c κs = search needs
+count-at-requires-3 : tie.Need-count-at-requires-3
+count-at-requires-3 c κs = search needs
 
 slice-aggregate-id-line : tie.Need-slice-aggregate-id-line
 slice-aggregate-id-line c = search needs
@@ -62,16 +51,7 @@ add-put-rows-3 : tie.Need-add-put-rows-3
 add-put-rows-3 c = search needs
 
 put-rows-requires-3 : tie.Need-put-rows-requires-3
-put-rows-requires-3 c κs =
-    let c3 = c .before .before .before in
-    let c19 = c3 .before .before .before .before .before .before .before .before .before .before .before .before .before .before .before .before in
-    let c20 = c19 .before in
-    let c21 = c20 .before in
-    let c22 = c21 .before in
-    let c23 = c22 .before in
-    let c24 = c23 .before in
-    let line = c3 .word-line .ensures in
-    omega (arith, line .reached, line .size, c23 .count .ensures, c24 .word .ok, c21 .count2 .ensures, c22 .word2 .ok, c19 .count3 .ensures, c20 .word3 .ok)
+put-rows-requires-3 c κs = search needs
 
 same-length : tie.Need-same-length
 same-length c = search needs
@@ -86,22 +66,16 @@ returns c =
     let c22 = c19 .before .before .before in
     let c23 = c22 .before in
     let c24 = c23 .before in
-    let c25 = c24 .before in
-    let c26 = c25 .before in
-    let c27 = c26 .before in
     appended-is (appended-then (c19 .id-line .ensures) (appended-then (c15 .put-rows .ensures) (appended-then (c11 .put-rows2 .ensures) (appended-then (c6 .word-line .ensures) (c2 .put-rows3 .ensures)))))
-    (sheet-text _ _ _ _ (c26 .count .ensures ∙ c27 .word .ensures) (c24 .count2 .ensures ∙ c25 .word2 .ensures) (c22 .count3 .ensures ∙ c23 .word3 .ensures))
+    (sheet-text _ _ _ _ (c24 .count-at .ensures .0) (c23 .count-at2 .ensures .0) (c22 .count-at3 .ensures .0))
 
 pub put-sheet-spec : {M : Type 1} → statement M
 put-sheet-spec =
     tie.close
     (tie.spec
-    word-requires
-    count-requires
-    word-requires-2
-    count-requires-2
-    word-requires-3
-    count-requires-3
+    count-at-requires
+    count-at-requires-2
+    count-at-requires-3
     slice-aggregate-id-line
     id-line-requires
     put-rows-requires
