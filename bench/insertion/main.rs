@@ -10,7 +10,7 @@ use std::hint::black_box;
 use std::time::Instant;
 
 unsafe extern "C" {
-    fn insertion_try_insert(sheet: *mut u32, sheet_len: usize, kerf_width: u32, width: u32, length: u32) -> bool;
+    fn insertion_try_insert(sheet: *mut u32, sheet_len: usize, kerf_width: u32, width: u32, length: u32);
 }
 
 const SIDE: u32 = 10_000;
@@ -29,9 +29,9 @@ impl Words {
         Words(w)
     }
 
-    fn try_insert(&mut self, width: u32, length: u32) -> bool {
+    fn try_insert(&mut self, width: u32, length: u32) {
         // SAFETY: the block starts as one rectangle and is changed by this function alone, so it meets the `requires`.
-        unsafe { insertion_try_insert(self.0.as_mut_ptr(), BLOCK, KERF, width, length) }
+        unsafe { insertion_try_insert(self.0.as_mut_ptr(), BLOCK, KERF, width, length) };
     }
 
     fn free_rects(&self) -> Vec<[u32; 4]> {
@@ -52,14 +52,16 @@ fn sheets(rects: usize) -> (Words, TimedSheet) {
             break;
         }
         let (w, l) = (draw(200, 1_500), draw(200, 1_500));
-        assert_eq!(ours.try_insert(w, l), rust.try_insert(w, l));
+        let before = ours.free_rects();
+        ours.try_insert(w, l);
+        assert_eq!(ours.free_rects() != before, rust.try_insert(w, l));
         assert_eq!(ours.free_rects(), rust.free_rects());
     }
     (ours, rust)
 }
 
 /// Best of some rounds, in ns a call, over copies that are made before the clock starts.
-fn best<S: Clone>(sheet: &S, mut attempt: impl FnMut(&mut S) -> bool) -> f64 {
+fn best<S: Clone, R>(sheet: &S, mut attempt: impl FnMut(&mut S) -> R) -> f64 {
     const CALLS: usize = 2_000;
     (0..40)
         .map(|_| {

@@ -3,10 +3,9 @@ use model::Rect;
 ghost use mathlib.Core.Path.{_≡_};
 ghost use mathlib.Core.Option.{some};
 ghost use Prim.Native.Nat.{_≤_};
-ghost use Rattle.lists.specs.Base.{isSome};
 ghost use Rattle.model.specs.Refusal.{mostSide};
 ghost use Rattle.model.specs.Merge.{stacked, joined, mergeAdjacentRects};
-ghost use Rattle.free_rects.specs.Bounds.{Small};
+ghost use Rattle.split.specs.Bounds.{Small};
 ghost use Rattle.adjacent.specs.Merged.{sameColumn, sameRow, mergeInRow, mergedOf};
 
 pub enum Merged {
@@ -92,16 +91,4 @@ pub fn merge_adjacent_rects(left: Rect, right: Rect, kerf_width: u32) -> Merged
         return merge_in_row(left, right, kerf_width);
     }
     merge_in_row(left, right, kerf_width)
-}
-
-// Whether two rectangles merge.
-pub fn merges(left: Rect, right: Rect, kerf_width: u32) -> bool
-    requires { ⌜ Small left × Small right × («kerf_width» ≤ mostSide) ⌝ }
-    ensures { λ r. ⌜ r ≡ isSome (mergeAdjacentRects «kerf_width» left right) ⌝ }
-{
-    let merged = merge_adjacent_rects(left, right, kerf_width);
-    match merged {
-        Merged::Into(_) => true,
-        Merged::Nothing => false,
-    }
 }

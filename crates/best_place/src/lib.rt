@@ -11,6 +11,8 @@ ghost use mathlib.Core.Path.{_≡_};
 ghost use mathlib.Core.List.{_∷_, [], map};
 ghost use Prim.Native.Nat.{_≤_};
 ghost use lib.ListN.{drop};
+ghost use Rattle.lists.specs.Base.{isLess, lexicographic};
+ghost use Rattle.choice.specs.Numbers.{numbersOf};
 ghost use Rattle.fits.specs.ByWays.{fitsByWays};
 ghost use Rattle.rect_words.specs.SheetWords.{rectsIn, mostRects, Block};
 ghost use Rattle.best_place.specs.declared.BestFit.{BestFit};
@@ -44,6 +46,25 @@ pub enum BestFit {
     },
 }
 
+// Field by field: the first number that differs decides.
+fn score_less(a: Score, b: Score) -> bool
+    ensures { λ r. ⌜ r ≡ isLess (lexicographic (numbersOf a) (numbersOf b)) ⌝ }
+{
+    if a.first != b.first {
+        return a.first < b.first;
+    }
+    if a.second != b.second {
+        return a.second < b.second;
+    }
+    if a.third != b.third {
+        return a.third < b.third;
+    }
+    if a.y != b.y {
+        return a.y < b.y;
+    }
+    a.x < b.x
+}
+
 // One more fit: it is taken where it is the first, or its score is lower.
 fn consider_fit(
     best: BestFit,
@@ -71,13 +92,7 @@ fn consider_fit(
             free_rect: _,
             fit: _,
             score: least,
-        } => {
-            if choice::score_less(score, least) {
-                next
-            } else {
-                best
-            }
-        }
+        } => { if score_less(score, least) { next } else { best } }
     }
 }
 

@@ -6,7 +6,6 @@ use model::GuillotineSplitHeuristic;
 use model::Rect;
 ghost use mathlib.Core.Path.{_≡_};
 ghost use Prim.Native.Nat.{_-_, min, max};
-ghost use Rattle.lists.specs.Base.{isLess, lexicographic};
 ghost use Rattle.model.specs.Choice.{freeRectChoiceScore};
 ghost use Rattle.model.specs.Split.{splitDirection};
 ghost use Rattle.model.specs.declared.GuillotineSplitHeuristic.{GuillotineSplitHeuristic};
@@ -98,24 +97,6 @@ pub fn free_rect_choice_score(free_rect: Rect, placed: Rect, choice: GuillotineR
             x: free_rect.x,
         },
     }
-}
-
-pub fn score_less(a: Score, b: Score) -> bool
-    ensures { λ r. ⌜ r ≡ isLess (lexicographic (numbersOf a) (numbersOf b)) ⌝ }
-{
-    if a.first != b.first {
-        return a.first < b.first;
-    }
-    if a.second != b.second {
-        return a.second < b.second;
-    }
-    if a.third != b.third {
-        return a.third < b.third;
-    }
-    if a.y != b.y {
-        return a.y < b.y;
-    }
-    a.x < b.x
 }
 
 // ---- the direction of a split

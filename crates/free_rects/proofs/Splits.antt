@@ -7,13 +7,7 @@ use lib.ListN.{length, length-append}
 use lib.Seq.{length-take-le}
 use Rattle.model.specs.declared.Rect.{Rect}
 use Rattle.free_rects.specs.declared.FreeRects.{FreeRects}
-use Rattle.free_rects.specs.declared.Remainder.{Remainder}
-use Rattle.free_rects.specs.declared.Remainder.the-variants.{Nothing, One}
-use Rattle.free_rects.specs.FreeList.{rectsOf, Holds, remainderOf}
-
-pub remainder-one : (r : Remainder) → length (remainderOf r) ≤ 1
-remainder-one Nothing = omega arith
-remainder-one (One r) = omega arith
+use Rattle.free_rects.specs.FreeList.{rectsOf, Holds}
 
 module _ (f : FreeRects) (room : length (f .rects) ≡ 65) (within : f .count ≤ 65) where
   pub length-rects : length (rectsOf f) ≡ f .count

@@ -1,11 +1,9 @@
 -- The free rectangles in a struct as a list.
 use mathlib.Core.Path.{_≡_}
-use mathlib.Core.List.{List, [], _∷_}
+use mathlib.Core.List.{List}
 use lib.ListN.{length, take}
 use Rattle.model.specs.declared.Rect.{Rect}
 use Rattle.free_rects.specs.declared.FreeRects.{FreeRects}
-use Rattle.free_rects.specs.declared.Remainder.{Remainder}
-use Rattle.free_rects.specs.declared.Remainder.the-variants.{Nothing, One}
 
 -- those that count
 abbrev pub rectsOf : FreeRects → List Rect
@@ -15,8 +13,3 @@ rectsOf free = take (free .count) (free .rects)
 pub record Holds (free : FreeRects) (rects : List Rect) : Type 0 where
   pub is : rectsOf free ≡ rects
   pub counts : free .count ≡ length rects
-
--- a remainder as what `split_free_rect_in_direction` pushes of it
-abbrev pub remainderOf : Remainder → List Rect
-remainderOf Nothing = []
-remainderOf (One r) = r ∷ []

@@ -1,2 +1,1 @@
 pub mod FreeList
-pub mod Bounds

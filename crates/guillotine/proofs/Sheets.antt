@@ -23,8 +23,8 @@ use Rattle.model.specs.Sheet.{GuillotineSheet, Insertion, Place, newSheet, best
 use Rattle.trust.proofs.Placing.{Good, bestPlace-good}
 use Rattle.trust.proofs.Merging.{mergeRounds-done}
 use Rattle.choice.specs.declared.Score.{Score}
-use Rattle.free_rects.specs.Bounds.{Small, Inside}
-use Rattle.free_rects.proofs.Remainders.{split-small, swap-small}
+use Rattle.split.specs.Bounds.{Small, Inside}
+use Rattle.split.proofs.Remainders.{split-small, swap-small}
 use Rattle.merging.proofs.Rounds.{rounds-small}
 use Rattle.best_place.specs.declared.BestFit.the-variants as best
 use Rattle.guillotine.specs.declared.Inserted.the-variants as inserted

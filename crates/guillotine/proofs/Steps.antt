@@ -19,11 +19,12 @@ use Rattle.model.specs.Merge.{Pair, firstPair, mergeRounds, mergeFreeRects, mer
 use Rattle.trust.proofs.Sizes.{split-length}
 use Rattle.free_rects.specs.declared.FreeRects.{FreeRects}
 use Rattle.merging.specs.declared.MergedFree.{MergedFree}
-use Rattle.free_rects.specs.declared.Remainder.{Remainder}
-use Rattle.free_rects.specs.FreeList.{rectsOf, Holds, remainderOf}
-use Rattle.free_rects.specs.Bounds.{Small, Inside}
+use Rattle.split.specs.declared.Remainder.{Remainder}
+use Rattle.free_rects.specs.FreeList.{rectsOf, Holds}
+use Rattle.split.specs.Remainders.{remainderOf}
+use Rattle.split.specs.Bounds.{Small, Inside}
 use Rattle.merging.specs.Merging.{Scannable, MergesTo}
-use Rattle.free_rects.proofs.Remainders.{split-small, swap-small}
+use Rattle.split.proofs.Remainders.{split-small, swap-small}
 use Rattle.merging.proofs.Apart.{swap-apart}
 use Rattle.merging.proofs.Rounds.{rounds-stop}
 use Rattle.rect_words.specs.SheetWords.{rectsIn, withRects}

@@ -16,9 +16,9 @@ use Rattle.trust.proofs.Truth.{or-false-split}
 use Rattle.model.specs.declared.Rect.{Rect}
 use Rattle.model.specs.Types.{noRect}
 use Rattle.model.specs.Merge.{Pair, mergeAdjacentRects, firstPair, mergesAny}
-use Rattle.free_rects.specs.declared.Remainder.{Remainder}
-use Rattle.free_rects.specs.declared.Remainder.the-variants.{Nothing, One}
-use Rattle.free_rects.specs.FreeList.{remainderOf}
+use Rattle.split.specs.declared.Remainder.{Remainder}
+use Rattle.split.specs.declared.Remainder.the-variants.{Nothing, One}
+use Rattle.split.specs.Remainders.{remainderOf}
 use Rattle.merging.proofs.Apart.{Apart, first-apart, apart-first, swap-apart}
 use Rattle.rect_words.specs.SheetWords.{rectAt, rectsIn}
 use Rattle.guillotine.specs.Insertions.{touches, touchesAny, others}

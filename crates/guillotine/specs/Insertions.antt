@@ -17,7 +17,7 @@ use Rattle.model.specs.Refusal.{mostSide}
 use Rattle.model.specs.Split.{splitFreeRect}
 use Rattle.model.specs.Merge.{mergeAdjacentRects, firstPair, mergeFreeRects, mergesAny}
 use Rattle.model.specs.Sheet.{GuillotineSheet, Insertion, Place, bestPlace, splitRects, tryInsert}
-use Rattle.free_rects.specs.Bounds.{Small}
+use Rattle.split.specs.Bounds.{Small}
 use Rattle.guillotine.specs.declared.Inserted.{Inserted}
 use Rattle.guillotine.specs.declared.Inserted.the-variants as inserted
 use Rattle.rect_words.specs.SheetWords.{rectsIn, withRects, mostRects, blockWords, Shows}

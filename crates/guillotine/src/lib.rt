@@ -1,25 +1,38 @@
 // The insertion of a cut into a sheet at its best place (`GuillotineSheet::try_insert`).
+use adjacent::Merged;
 use best_place::BestFit;
-use free_rects::Remainder;
 use model::BaselineGuillotineHeuristic;
 use model::CutInstance;
 use model::Direction;
 use model::FitResult;
 use model::PatternDirection;
 use model::Rect;
+use split::Remainder;
 ghost use mathlib.Core.Path.{_≡_};
 ghost use mathlib.Core.List.{_++_};
 ghost use Prim.Native.Nat.{_≤_, _<_};
 ghost use lib.ListN.{getD, take, drop};
-ghost use Rattle.lists.specs.Base.{swapRemove};
+ghost use Rattle.lists.specs.Base.{isSome, swapRemove};
 ghost use Rattle.lists.proofs.Perm.{All};
 ghost use Rattle.model.specs.Types.{noRect};
 ghost use Rattle.model.specs.Refusal.{mostSide};
-ghost use Rattle.model.specs.Merge.{mergesAny};
-ghost use Rattle.free_rects.specs.FreeList.{remainderOf};
-ghost use Rattle.free_rects.specs.Bounds.{Small, Inside};
+ghost use Rattle.model.specs.Merge.{mergeAdjacentRects, mergesAny};
+ghost use Rattle.split.specs.Remainders.{remainderOf};
+ghost use Rattle.split.specs.Bounds.{Small, Inside};
 ghost use Rattle.rect_words.specs.SheetWords.{rectsIn};
 ghost use Rattle.guillotine.specs.Insertions.{touches, touchesAny, others, splitBy, Insertable, At, Replaces, Inserts};
+
+// Whether two rectangles merge.
+fn merges(left: Rect, right: Rect, kerf_width: u32) -> bool
+    requires { ⌜ Small left × Small right × («kerf_width» ≤ mostSide) ⌝ }
+    ensures { λ r. ⌜ r ≡ isSome (mergeAdjacentRects «kerf_width» left right) ⌝ }
+{
+    let merged = adjacent::merge_adjacent_rects(left, right, kerf_width);
+    match merged {
+        Merged::Into(_) => true,
+        Merged::Nothing => false,
+    }
+}
 
 // Whether one of the rectangles in a range merges with this one.
 fn touches_between(sheet: &[u32], from: usize, to: usize, rect: Rect, kerf_width: u32) -> bool
@@ -29,7 +42,7 @@ fn touches_between(sheet: &[u32], from: usize, to: usize, rect: Rect, kerf_width
     let mut index = from;
     while index < to {
         let other = rect_words::rect_at(sheet, index);
-        if adjacent::merges(other, rect, kerf_width) {
+        if merges(other, rect, kerf_width) {
             return true;
         }
         index += 1;
@@ -62,7 +75,7 @@ fn remainders_merge(bottom: Remainder, right: Remainder, kerf_width: u32) -> boo
         Remainder::Nothing => false,
         Remainder::One(a) => match right {
             Remainder::Nothing => false,
-            Remainder::One(b) => adjacent::merges(a, b, kerf_width),
+            Remainder::One(b) => merges(a, b, kerf_width),
         },
     }
 }
@@ -127,8 +140,8 @@ fn insert_at(
     requires { ⌜ Insertable «kerf_width» (now sheet) × At (rectsIn (now sheet)) index «free_rect» × Inside placed «free_rect» ⌝ }
     ensures { λ r. ⌜ Replaces «kerf_width» (splitBy «kerf_width» index «free_rect» placed direction (rectsIn (now (sheet .entry)))) (now (sheet .entry)) (now (sheet .exit)) r ⌝ }
 {
-    let bottom = free_rects::bottom_remainder(free_rect, placed, kerf_width, direction);
-    let right = free_rects::right_remainder(free_rect, placed, kerf_width, direction);
+    let bottom = split::bottom_remainder(free_rect, placed, kerf_width, direction);
+    let right = split::right_remainder(free_rect, placed, kerf_width, direction);
     if merges_any(sheet, kerf_width, index, bottom, right) {
         return insert_merging(sheet, kerf_width, index, free_rect, placed, direction);
     }

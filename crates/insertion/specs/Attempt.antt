@@ -1,7 +1,6 @@
--- One attempt to insert a cut, by numbers: what is asked, and what is told of it.
+-- One attempt to insert a cut, by numbers.
 use Prim.Native.Nat.{ℕ}
-use mathlib.Core.Path.{_≡_}
-use mathlib.Core.Bool.{Bool, true, false}
+use mathlib.Core.Bool.{true}
 use mathlib.Core.List.{List}
 use Rattle.model.specs.declared.PatternDirection.{PatternDirection}
 use Rattle.model.specs.declared.CutInstance.{CutInstance}
@@ -13,12 +12,7 @@ use Rattle.guillotine.specs.Insertions.{Inserts}
 abbrev pub plainCut : ℕ → ℕ → CutInstance
 plainCut width length = record { «cut_id» = 0; instance = 0; width = width; length = length; pattern = PatternDirection.None; «can_rotate» = true }
 
-abbrev pub lies : Inserted → Bool
-lies Inserted.Nothing = false
-lies (Inserted.At index free fit merged) = true
-
 -- by the source's default heuristic, on a board without a pattern
-pub record Attempt (kerf width length : ℕ) (before after : List ℕ) (r : Bool) : Type 0 where
+pub record Attempt (kerf width length : ℕ) (before after : List ℕ) : Type 0 where
   pub inserted : Inserted
-  pub told : r ≡ lies inserted
   pub inserts : Inserts kerf PatternDirection.None (plainCut width length) (defaultHeuristic heuristicVariants) before after inserted

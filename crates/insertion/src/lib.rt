@@ -1,5 +1,5 @@
-// One attempt to insert a cut into a sheet's free rectangles, for a driver in Rust that times it beside the source's.
-use guillotine::Inserted;
+// One attempt to insert a cut into a sheet's free rectangles, for a driver in Rust that times it beside the source's. The words tell
+// whether it found a place: an insertion changes them.
 use model::BaselineGuillotineHeuristic;
 use model::CutInstance;
 use model::GuillotineRectChoice;
@@ -9,7 +9,7 @@ use model::RotationPreference;
 ghost use mathlib.Core.Path.{_≡_};
 ghost use Rattle.model.specs.Search.{heuristicVariants, defaultHeuristic};
 ghost use Rattle.guillotine.specs.Insertions.{Insertable};
-ghost use Rattle.insertion.specs.Attempt.{plainCut, lies, Attempt};
+ghost use Rattle.insertion.specs.Attempt.{plainCut, Attempt};
 
 fn default_heuristic() -> BaselineGuillotineHeuristic
     ensures { λ r. ⌜ r ≡ defaultHeuristic heuristicVariants ⌝ }
@@ -34,38 +34,12 @@ fn plain_cut(width: u32, length: u32) -> CutInstance
     }
 }
 
-fn is_inserted(inserted: Inserted) -> bool
-    ensures { λ r. ⌜ r ≡ lies inserted ⌝ }
-{
-    match inserted {
-        Inserted::Nothing => false,
-        Inserted::At {
-            index: _,
-            free_rect: _,
-            fit: _,
-            merged: _,
-        } => true,
-    }
-}
-
 #[no_mangle]
-pub extern "C" fn insertion_try_insert(
-    sheet: &mut [u32],
-    kerf_width: u32,
-    width: u32,
-    length: u32,
-) -> bool
+pub extern "C" fn insertion_try_insert(sheet: &mut [u32], kerf_width: u32, width: u32, length: u32)
     requires { ⌜ Insertable «kerf_width» (now sheet) ⌝ }
-    ensures { λ r. ⌜ Attempt «kerf_width» width length (now (sheet .entry)) (now (sheet .exit)) r ⌝ }
+    ensures { λ _. ⌜ Attempt «kerf_width» width length (now (sheet .entry)) (now (sheet .exit)) ⌝ }
 {
     let cut = plain_cut(width, length);
     let heuristic = default_heuristic();
-    let inserted = guillotine::try_insert(
-        sheet,
-        kerf_width,
-        PatternDirection::None,
-        cut,
-        heuristic,
-    );
-    is_inserted(inserted)
+    guillotine::try_insert(sheet, kerf_width, PatternDirection::None, cut, heuristic);
 }

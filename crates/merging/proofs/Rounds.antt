@@ -18,7 +18,7 @@ use Rattle.trust.proofs.Geometry.{Joins, down, across, merged-joins}
 use Rattle.trust.proofs.Merging.{firstPair-mergeable, round, round-length}
 use Rattle.free_rects.specs.declared.FreeRects.{FreeRects}
 use Rattle.free_rects.specs.FreeList.{rectsOf, Holds}
-use Rattle.free_rects.specs.Bounds.{Small}
+use Rattle.split.specs.Bounds.{Small}
 use Rattle.merging.specs.Merging.{Scannable, MergesTo}
 use Rattle.merging.proofs.Apart.{first-passed}
 

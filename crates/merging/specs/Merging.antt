@@ -11,7 +11,7 @@ use Rattle.merging.specs.declared.FoundPair.{FoundPair}
 use Rattle.merging.specs.declared.FoundPair.the-variants.{Nothing, At}
 use Rattle.merging.specs.declared.MergedFree.{MergedFree}
 use Rattle.free_rects.specs.FreeList.{rectsOf, Holds}
-use Rattle.free_rects.specs.Bounds.{Small}
+use Rattle.split.specs.Bounds.{Small}
 use Rattle.free_rects.specs.declared.FreeRects.{FreeRects}
 use Rattle.lists.proofs.Perm.{All}
 

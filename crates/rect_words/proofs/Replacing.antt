@@ -8,9 +8,9 @@ use Rattle.lists.specs.Base.{swapRemove}
 use Rattle.lists.proofs.Arrays.{swap-length}
 use Rattle.model.specs.declared.Rect.{Rect}
 use Rattle.model.specs.Types.{noRect}
-use Rattle.free_rects.specs.declared.Remainder.{Remainder}
-use Rattle.free_rects.specs.FreeList.{remainderOf}
-use Rattle.free_rects.proofs.Splits.{remainder-one}
+use Rattle.split.specs.declared.Remainder.{Remainder}
+use Rattle.split.specs.Remainders.{remainderOf}
+use Rattle.split.proofs.Remainders.{remainder-one}
 use Rattle.rect_words.specs.SheetWords.{rectsIn, withRects, Block, mostRects, blockWords}
 use Rattle.rect_words.proofs.Words.{length-rects, count-with, with-more, block-with}
 

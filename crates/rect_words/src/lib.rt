@@ -1,14 +1,15 @@
 // A sheet's free rectangles in lent words: read, written, and changed in place (`GuillotineSheet::new`, `swap_remove`, `push`).
 use free_rects::FreeRects;
-use free_rects::Remainder;
 use model::Rect;
+use split::Remainder;
 ghost use mathlib.Core.Path.{_≡_};
 ghost use mathlib.Core.List.{_∷_, [], _++_};
 ghost use Prim.Native.Nat.{_≤_, _<_};
 ghost use lib.ListN.{length, getD};
 ghost use Rattle.lists.specs.Base.{swapRemove};
 ghost use Rattle.model.specs.Types.{rect, noRect};
-ghost use Rattle.free_rects.specs.FreeList.{rectsOf, Holds, remainderOf};
+ghost use Rattle.free_rects.specs.FreeList.{rectsOf, Holds};
+ghost use Rattle.split.specs.Remainders.{remainderOf};
 ghost use Rattle.rect_words.specs.SheetWords.{rectAt, rectsIn, putRect, putRects, withRects, mostRects, blockWords, Block};
 
 // ---- rectangles in words

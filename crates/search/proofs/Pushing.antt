@@ -20,9 +20,9 @@ use Rattle.candidate.specs.Stands.{candidateIn, Stands}
 use Rattle.stored.specs.Slots.{slotWords, slotOf, storedIn, storeIn}
 use Rattle.stored.specs.Populations.{wordsAt, candidateAt, populationIn, AllStand, Holds, OnlySlots}
 use Rattle.stored.proofs.Populations.{slot-kept, only-wider, only-none, only-then, same-slot, load-fits, standing-at, population-length, population-at, pushed-only}
-use Rattle.crossover.specs.declared.Child.{Child}
-use Rattle.crossover.specs.Children.{IsChild}
-use Rattle.population.proofs.Passes.{pushed-holds}
+use Rattle.variation.specs.declared.Child.{Child}
+use Rattle.variation.specs.Children.{IsChild}
+use Rattle.search.proofs.Passes.{pushed-holds}
 use Rattle.search.specs.Regions.{PushesChild}
 
 -- ---- one child

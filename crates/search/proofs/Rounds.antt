@@ -14,8 +14,8 @@ use Rattle.stored.specs.Slots.{slotWords}
 use Rattle.stored.specs.Populations.{populationIn, AllStand, Holds, OnlySlots}
 use Rattle.stored.proofs.Populations.{only-then, population-length}
 use Rattle.survival.specs.Ranks.{Regions}
-use Rattle.population.specs.Improved.{improved}
-use Rattle.population.proofs.Passes.{passes-are}
+use Rattle.search.specs.Improved.{improved}
+use Rattle.search.proofs.Passes.{passes-are}
 use Rattle.search.specs.Regions.{Region, behindSlots}
 
 -- the other region

@@ -10,8 +10,8 @@ use Rattle.model.specs.Candidate.{Candidate}
 use Rattle.model.specs.Expand.{ProblemInstance}
 use Rattle.stored.specs.Slots.{slotWords}
 use Rattle.stored.specs.Populations.{Holds, OnlySlots}
-use Rattle.crossover.specs.declared.Child.{Child}
-use Rattle.crossover.specs.Children.{IsChild}
+use Rattle.variation.specs.declared.Child.{Child}
+use Rattle.variation.specs.Children.{IsChild}
 
 -- where a population begins
 abbrev pub Region : ℕ → Type 0

@@ -15,9 +15,9 @@ use Rattle.model.specs.Split.{bottomRemainder, rightRemainder}
 use Rattle.model.specs.Guide.{SliceNode, LeafKind, cut, leaf, free, span, cutOff}
 use Rattle.model.specs.Plan.{nodeWords}
 use Rattle.trust.proofs.Guide.{guideCutOf, guideCut-some}
-use Rattle.free_rects.specs.declared.Remainder.{Remainder}
-use Rattle.free_rects.specs.FreeList.{remainderOf}
-use Rattle.free_rects.specs.Bounds.{Small, Inside}
+use Rattle.split.specs.declared.Remainder.{Remainder}
+use Rattle.split.specs.Remainders.{remainderOf}
+use Rattle.split.specs.Bounds.{Small, Inside}
 use Rattle.subtree.specs.declared.Node.{Node}
 use Rattle.subtree.specs.declared.CutOff.{CutOff}
 use Rattle.subtree.specs.declared.Subtree.{Subtree}

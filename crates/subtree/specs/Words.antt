@@ -9,8 +9,8 @@ use Rattle.model.specs.declared.Direction.{Direction}
 use Rattle.model.specs.Refusal.{mostSide}
 use Rattle.model.specs.Guide.{SliceNode, span, cutOff}
 use Rattle.model.specs.Plan.{rectWords, nodeWords, preorder, nodesOf}
-use Rattle.free_rects.specs.declared.Remainder.{Remainder}
-use Rattle.free_rects.specs.FreeList.{remainderOf}
+use Rattle.split.specs.declared.Remainder.{Remainder}
+use Rattle.split.specs.Remainders.{remainderOf}
 use Rattle.subtree.specs.declared.Node.{Node}
 use Rattle.subtree.specs.declared.CutOff.{CutOff}
 use Rattle.subtree.specs.declared.Subtree.{Subtree}

@@ -6,12 +6,12 @@ ghost use Rattle.model.specs.Guide.{SliceNode, leaf, free, cutPiece, insertSubt
 ghost use Rattle.model.specs.Guide.{cut as cutOf};
 ghost use Rattle.model.specs.Plan.{nodeWords};
 ghost use Rattle.trust.proofs.Guide.{guideCutOf};
-ghost use Rattle.free_rects.specs.FreeList.{remainderOf};
+ghost use Rattle.split.specs.Remainders.{remainderOf};
 ghost use Rattle.subtree.specs.Words.{wordsOf, subtreeWords, guideWords, InCorner, Cuttable, CutsOff};
-use free_rects::Remainder;
 use model::CutInstance;
 use model::Direction;
 use model::Rect;
+use split::Remainder;
 
 // A node's eight words: its kind (0 cut, 1 piece, 2 waste), three more, its rectangle.
 pub struct Node {
@@ -120,8 +120,8 @@ fn guillotine_horizontal_insert_subtree(
         width: free_rect.width,
         length: placed.length,
     };
-    let right = free_rects::right_remainder(free_rect, placed, kerf, Direction::Horizontal);
-    let bottom = free_rects::bottom_remainder(free_rect, placed, kerf, Direction::Horizontal);
+    let right = split::right_remainder(free_rect, placed, kerf, Direction::Horizontal);
+    let bottom = split::bottom_remainder(free_rect, placed, kerf, Direction::Horizontal);
     Subtree {
         outer: cut_off(
             free_rect,
@@ -150,8 +150,8 @@ fn guillotine_vertical_insert_subtree(
         width: placed.width,
         length: free_rect.length,
     };
-    let bottom = free_rects::bottom_remainder(free_rect, placed, kerf, Direction::Vertical);
-    let right = free_rects::right_remainder(free_rect, placed, kerf, Direction::Vertical);
+    let bottom = split::bottom_remainder(free_rect, placed, kerf, Direction::Vertical);
+    let right = split::right_remainder(free_rect, placed, kerf, Direction::Vertical);
     Subtree {
         outer: cut_off(free_rect, Direction::Vertical, placed.width, kerf, right),
         inner: cut_off(left, Direction::Horizontal, placed.length, kerf, bottom),

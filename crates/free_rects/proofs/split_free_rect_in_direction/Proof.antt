@@ -5,7 +5,8 @@ use lib.ListN.{length}
 use borrow.Author.Needs.{needs}
 use Rattle.lists.proofs.Maps.{counted}
 use Rattle.model.specs.Split.{splitFreeRect}
-use Rattle.free_rects.proofs.Splits.{remainder-one, pushed-count, holds-then}
+use Rattle.split.proofs.Remainders.{remainder-one}
+use Rattle.free_rects.proofs.Splits.{pushed-count, holds-then}
 use Rattle.free_rects.proofs.split_free_rect_in_direction.Statement.{statement}
 use Rattle.free_rects.proofs.split_free_rect_in_direction.Tie as tie
 

@@ -2,7 +2,7 @@
 use mathlib.Core.Path.{sym, _∙_}
 use borrow.Author.Needs.{needs}
 use Rattle.lists.specs.Base.{any}
-use Rattle.free_rects.specs.FreeList.{remainderOf}
+use Rattle.split.specs.Remainders.{remainderOf}
 use Rattle.guillotine.specs.Insertions.{touchesAny}
 use Rattle.guillotine.proofs.Touching.{touches-none, touches-two}
 use Rattle.guillotine.proofs.remainders_merge.Statement.{statement}

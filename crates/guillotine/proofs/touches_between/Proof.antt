@@ -7,7 +7,7 @@ use lib.ListN.{length, getD, take, drop}
 use borrow.Author.Needs.{needs}
 use Rattle.lists.proofs.Every.{all-get}
 use Rattle.model.specs.Types.{noRect}
-use Rattle.free_rects.specs.Bounds.{Small}
+use Rattle.split.specs.Bounds.{Small}
 use Rattle.guillotine.specs.Insertions.{touches}
 use Rattle.rect_words.specs.SheetWords.{rectsIn}
 use Rattle.guillotine.proofs.Touching.{touch-hit, touch-miss, touch-end}

@@ -13,19 +13,15 @@ default-heuristic-requires c κs = search needs
 try-insert-requires : tie.Need-try-insert-requires
 try-insert-requires c κs = search needs
 
-is-inserted-requires : tie.Need-is-inserted-requires
-is-inserted-requires c κs = search needs
-
 same-length : tie.Need-same-length
 same-length c = search needs
 
 returns : tie.Need-returns
 returns c =
-    let words = c .before .before .before .try-insert .ensures in
+    let words = c .before .before .try-insert .ensures in
     record {
       inserted = _;
-      told = c .is-inserted .ensures;
-      inserts = inserts-as (c .before .before .before .before .before .before .plain-cut .ensures) (c .before .before .before .before .before .default-heuristic .ensures) words;
+      inserts = inserts-as (c .before .before .before .before .before .plain-cut .ensures) (c .before .before .before .before .default-heuristic .ensures) words;
     }
 
 pub insertion-try-insert-spec : {M : Type 1} → statement M
@@ -35,6 +31,5 @@ insertion-try-insert-spec =
     plain-cut-requires
     default-heuristic-requires
     try-insert-requires
-    is-inserted-requires
     same-length
     returns)

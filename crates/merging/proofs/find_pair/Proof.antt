@@ -13,7 +13,7 @@ use Rattle.model.specs.Types.{noRect}
 use Rattle.model.specs.declared.Rect.{Rect}
 use Rattle.adjacent.specs.Merged.{mergedOf}
 use Rattle.merging.specs.Merging.{pairOf}
-use Rattle.free_rects.specs.Bounds.{Small}
+use Rattle.split.specs.Bounds.{Small}
 use Rattle.merging.specs.declared.FoundPair.the-variants.{Nothing}
 use Rattle.merging.proofs.Scan.{all-at, row-start, row-fresh, row-skip, row-hit, row-end, pair-end}
 use Rattle.merging.proofs.find_pair.Statement.{statement}

@@ -1,4 +1,0 @@
--- Laws that belong to no one function.
-pub mod Shifted
-pub mod Apart
-pub mod Compacting

@@ -1,2 +1,0 @@
--- The definitions that the contracts of compaction cite.
-pub mod Compact

@@ -1,2 +1,0 @@
--- The definitions that the contracts of crossover cite.
-pub mod Children

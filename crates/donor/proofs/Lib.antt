@@ -1,4 +1,0 @@
--- Laws that belong to no one function.
-pub mod Pushes
-pub mod Picks
-pub mod Crossed

@@ -1,2 +1,0 @@
--- The definitions that the contracts of a donor's sheet cite.
-pub mod Donated

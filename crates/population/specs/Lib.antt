@@ -1,2 +1,0 @@
--- The definitions that the contracts of populations cite.
-pub mod Improved
