@@ -1,8 +1,7 @@
-// The generator of the source, `TinyPrng`, and the shuffle of a cut order.
+// The generator of the source, `TinyPrng`.
 ghost use mathlib.Core.Path.{_≡_};
 ghost use Prim.Native.Nat.{_*_, _%_, _^_, _<_};
 ghost use Rattle.model.specs.TinyPrng.{nextState, valueOf, indexOf};
-ghost use Rattle.generator.specs.Shuffle.{shuffled};
 
 // a * b, modulo 2^64. Each number is cut into halves of 32 bits, so that each product of two
 // halves fits 64 bits; the product of the upper halves falls out.
@@ -76,7 +75,7 @@ pub struct Drawn {
 }
 
 // A draw by value: a generator is made, lent to `next_index`, and read again.
-fn draw(state: u64, upper: usize) -> Drawn
+pub fn draw(state: u64, upper: usize) -> Drawn
     requires { ⌜ 0 < upper ⌝ }
     ensures { λ r. ⌜ (r .index ≡ indexOf (nextState state) upper) × (r .state ≡ nextState state) ⌝ }
 {
@@ -85,22 +84,5 @@ fn draw(state: u64, upper: usize) -> Drawn
     Drawn {
         state: prng.state,
         index,
-    }
-}
-
-// shuffle_cut_order, of an order that is sorted already: numbers stand for the cuts' keys.
-pub fn shuffle_cut_order(order: &mut [u32], seed: u64)
-    ensures { λ _. ⌜ now (order .exit) ≡ shuffled 0 seed (now (order .entry)) ⌝ }
-{
-    let mut state = seed;
-    let mut index = order.len();
-    while index > 1 {
-        index -= 1;
-        let drawn = draw(state, index + 1);
-        state = drawn.state;
-        let other = drawn.index;
-        let x = order[index];
-        order[index] = order[other];
-        order[other] = x;
     }
 }

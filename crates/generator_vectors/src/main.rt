@@ -30,7 +30,7 @@ fn outputs(seed: u64, count: usize) {
 
 fn order(seed: u64) {
     let mut a = [0u32, 1, 2, 3, 4, 5, 6, 7, 8, 9];
-    generator::shuffle_cut_order(&mut a, seed);
+    shuffle::shuffle_cut_order(&mut a, seed);
     for k in 0..10 {
         word(wide(a[k]));
     }

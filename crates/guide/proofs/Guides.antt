@@ -17,14 +17,15 @@ use Rattle.model.specs.Plan.{nodeWords, preorder, nodesOf}
 use Rattle.subtree.specs.declared.Node.{Node}
 use Rattle.subtree.specs.declared.Subtree.{Subtree}
 use Rattle.subtree.specs.Words.{wordsOf, subtreeWords, guideWords, treeWords}
-use Rattle.subtree.proofs.Trees.{guideWords-some, guideWords-none, treeWords-leaf}
+use Rattle.subtree.proofs.Trees.{guideWords-some, guideWords-none, treeWords-leaf, holds-fits}
 use Rattle.free_leaf.specs.declared.Found.{Found}
 use Rattle.free_leaf.specs.Leaves.{size, Reads, Formed, Ends}
 use Rattle.free_leaf.proofs.Sizes.{size-cut, size-leaf}
 use Rattle.splice.specs.Splices.{spliced}
 use Rattle.splice.proofs.Subtrees.{subtree-length}
 use Rattle.splice.proofs.Splices.{spliced-is}
-use Rattle.guide.specs.Words.{Holds, Became, Becomes, Replaces, Guided, splitGuide, nextGuide}
+use Rattle.subtree.specs.Words.{Holds}
+use Rattle.guide.specs.Words.{Became, Becomes, Replaces, Guided, splitGuide, nextGuide}
 use Rattle.guide.proofs.Outcomes.{reads-part, Spliced, Outcome, outcome}
 
 -- ---- counts
@@ -42,9 +43,6 @@ size-pos (cut c a b) = omega (arith, size-cut c a b)
 size-pos (leaf r k) = omega (arith, size-leaf r k)
 
 module _ (w : List ℕ) (n : ℕ) where
-  pub holds-fits : (g : Option SliceNode) → Holds w n g → 8 * n ≤ length w
-  holds-fits g h = omega (arith, length-take (8 * n) w, ap length (h .reads), nodes-size (nodesOf g), h .counts)
-
   holds-reads : (t : SliceNode) → Holds w n (some t) → Reads w n 0 t
   holds-reads t h =
       let all : n ≡ size t = h .counts ∙ size-some t in
@@ -60,7 +58,7 @@ module _ (w : List ℕ) (n : ℕ) where
   empty-none k h = absurd (omega (arith, holds-absent h))
 
   pub guided-fits : Guided w n → 8 * n ≤ length w
-  guided-fits g = holds-fits (g .guide) (g .holds)
+  guided-fits g = holds-fits w n (g .guide) (g .holds)
 
   pub guided-formed : 0 < n → Guided w n → Formed w n 0
   guided-formed k g = go (g .guide) (g .holds)

@@ -14,7 +14,8 @@ use Rattle.trust.proofs.RectLayout.{layout-perm}
 use Rattle.trust.proofs.Sheet.{Sound, chosen-first, lies-positive}
 use Rattle.trust.proofs.Sizes.{NodeCount}
 use Rattle.subtree.specs.Words.{InCorner}
-use Rattle.guide.specs.Words.{Holds, splitGuide, nextGuide}
+use Rattle.subtree.specs.Words.{Holds}
+use Rattle.guide.specs.Words.{splitGuide, nextGuide}
 
 -- ---- the definition's steps
 

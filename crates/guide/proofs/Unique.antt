@@ -18,7 +18,7 @@ use Rattle.model.specs.Plan.{nodeWords}
 use Rattle.subtree.specs.Words.{treeWords}
 use Rattle.subtree.proofs.Trees.{treeWords-cut, treeWords-leaf, guideWords-some}
 use Rattle.free_leaf.specs.Leaves.{rectAt}
-use Rattle.guide.specs.Words.{Holds}
+use Rattle.subtree.specs.Words.{Holds}
 use Rattle.guide.proofs.Guides.{holds-absent, holds-present}
 
 -- ---- what eight words say

@@ -1,24 +1,18 @@
 -- A guide in words: its nodes in preorder, eight words each.
-use Prim.Native.Nat.{ℕ, _+_, _*_, _<_, _^_}
+use Prim.Native.Nat.{ℕ, _*_}
 use mathlib.Core.Path.{_≡_}
 use mathlib.Core.Bool.{Bool}
-use mathlib.Core.List.{List, _++_, map}
+use mathlib.Core.List.{List, _++_}
 use mathlib.Core.Option.{Option, none}
-use lib.Dec.{eqb}
-use lib.ListN.{length, getD, take, drop}
-use Rattle.lists.specs.Base.{if_then_else_, _>>=_, sum}
+use lib.ListN.{length, drop}
+use Rattle.lists.specs.Base.{if_then_else_, _>>=_}
 use Rattle.model.specs.declared.Rect.{Rect}
 use Rattle.model.specs.declared.Direction.{Direction}
 use Rattle.model.specs.declared.CutInstance.{CutInstance}
 use Rattle.model.specs.Guide.{SliceNode, insertSubtree, replaceFreeLeaf}
-use Rattle.model.specs.Plan.{nodesOf, sawLength}
+use Rattle.model.specs.Plan.{nodesOf}
 use Rattle.subtree.specs.declared.Subtree.{Subtree}
-use Rattle.subtree.specs.Words.{subtreeWords, guideWords, treeWords}
-
--- the words start with a guide of this many nodes
-pub record Holds (words : List ℕ) (count : ℕ) (guide : Option SliceNode) : Type 0 where
-  pub counts : count ≡ length (nodesOf guide)
-  pub reads : take (8 * count) words ≡ guideWords guide
+use Rattle.subtree.specs.Words.{subtreeWords, guideWords, treeWords, Holds}
 
 -- the words as they were, but for the guide that they start with
 pub record Became (before after : List ℕ) (count : ℕ) (guide : Option SliceNode) : Type 0 where
@@ -51,25 +45,3 @@ pub record Replaces (before after : List ℕ) (count next : ℕ) (target : Rect)
 pub record Guided (words : List ℕ) (count : ℕ) : Type 0 where
   pub guide : Option SliceNode
   pub holds : Holds words count guide
-
--- ---- the saw
-
--- the length of the cut of node `at`, if it is one
-unfoldable pub sawAt : List ℕ → ℕ → ℕ
-sawAt words at =
-    if eqb (getD words (8 * at) 0) 0
-    then (if eqb (getD words (8 * at + 1) 0) 0 then getD words (8 * at + 6) 0 else getD words (8 * at + 7) 0)
-    else 0
-
--- all cuts' lengths
-abbrev pub sawOfGuide : Option SliceNode → ℕ
-sawOfGuide guide = sum (map sawLength (nodesOf guide))
-
-pub record Sawn (words : List ℕ) (count saw : ℕ) : Type 0 where
-  pub sawn : (guide : Option SliceNode) → Holds words count guide → saw ≡ sawOfGuide guide
-
--- some guide stands there, whose cuts' lengths sum to 32 bits
-pub record Sawable (words : List ℕ) (count : ℕ) : Type 0 where
-  pub guide : Option SliceNode
-  pub holds : Holds words count guide
-  pub below : sawOfGuide guide < 2 ^ 32

@@ -7,7 +7,7 @@ ghost use lib.ListN.{length, take};
 ghost use Rattle.lists.specs.Parts.{patch};
 ghost use Rattle.model.specs.Guide.{leaf, free};
 ghost use Rattle.subtree.specs.Words.{subtreeWords, InCorner};
-ghost use Rattle.guide.specs.Words.{Guided, Became, Becomes, Replaces, nextGuide, sawAt, Sawn, Sawable};
+ghost use Rattle.guide.specs.Words.{Guided, Became, Becomes, Replaces, nextGuide};
 use free_leaf::Found;
 use model::CutInstance;
 use model::Direction;
@@ -66,33 +66,6 @@ pub fn next_guide(
 }
 
 // ---- the guide in the plan
-
-fn saw_at(words: &[u32], at: usize) -> u32
-    requires { ⌜ 8 * at + 8 ≤ length (now words) ⌝ }
-    ensures { λ r. ⌜ r ≡ sawAt (now (words .entry)) at ⌝ }
-{
-    if words[8 * at] != 0 {
-        return 0;
-    }
-    if words[8 * at + 1] != 0 {
-        return words[8 * at + 7];
-    }
-    words[8 * at + 6]
-}
-
-// The sum of the cuts' lengths.
-pub fn saw_length(words: &[u32], count: usize) -> u32
-    requires { ⌜ Sawable (now words) count ⌝ }
-    ensures { λ r. ⌜ Sawn (now (words .entry)) count r ⌝ }
-{
-    let mut total: u32 = 0;
-    let mut at = 0;
-    while at < count {
-        total += saw_at(words, at);
-        at += 1;
-    }
-    total
-}
 
 // The guide's words are those of the plan's nodes.
 pub fn put_nodes(plan: &mut [u32], at: usize, words: &[u32], count: usize)

@@ -20,8 +20,8 @@ use Rattle.model.specs.Types.{cutKey}
 use Rattle.model.specs.TinyPrng.{wrap}
 use Rattle.model.specs.Expand.{ProblemInstance, sortedCutOrder, shuffleCutOrder}
 use Rattle.model.specs.Search.{SearchNumbers as Numbers, Seed, heuristic, defaultHeuristic, otherHeuristics, sortedSeed, variantSeeds, shuffledSeed, initialSeeds}
-use Rattle.generator.specs.Shuffle.{shuffled}
-use Rattle.generator.proofs.Shuffle.{shuffled-perm, shuffled-keys}
+use Rattle.shuffle.specs.Shuffle.{shuffled}
+use Rattle.shuffle.proofs.Shuffle.{shuffled-perm, shuffled-keys}
 use Rattle.candidate.specs.Stands.{cutIn}
 use Rattle.seeds.specs.declared.SearchNumbers.{SearchNumbers}
 use Rattle.seeds.specs.declared.HeuristicRows.{HeuristicRows}

@@ -13,7 +13,7 @@ ghost use lib.ListN.{length, getD, take, drop};
 ghost use Rattle.model.specs.declared.CutInstance.{CutInstance};
 ghost use Rattle.model.specs.Expand.{ProblemInstance};
 ghost use Rattle.model.specs.Search.{heuristic, searchNumbers, heuristicVariants, defaultHeuristic, initialSeeds};
-ghost use Rattle.generator.specs.Shuffle.{shuffled};
+ghost use Rattle.shuffle.specs.Shuffle.{shuffled};
 ghost use Rattle.seeds.specs.Rows.{numbersOf, rowsOf, sortedSeeds};
 ghost use Rattle.seeds.specs.Seeds.{InOrder, IsSeed};
 
@@ -155,7 +155,7 @@ fn shuffled_order(sorted: [u32; 64], cuts: usize, seed: u64) -> [u32; 64]
     ensures { λ r. ⌜ r ≡ shuffled 0 seed (take cuts sorted) ++ drop cuts sorted ⌝ }
 {
     let mut order = sorted;
-    generator::shuffle_cut_order(&mut order[..cuts], seed);
+    shuffle::shuffle_cut_order(&mut order[..cuts], seed);
     order
 }
 

@@ -19,8 +19,8 @@ use Rattle.trust.proofs.RoundTrip.{sheet-length, waste-size, pieces-size}
 use Rattle.trust.proofs.PlanRange.{saw-range}
 use Rattle.rect_words.specs.SheetWords.{rectsIn, Block}
 use Rattle.rect_words.proofs.Words.{length-rects}
-use Rattle.guide.specs.Words.{Sawn, Sawable}
-use Rattle.guide.proofs.Guides.{holds-fits}
+use Rattle.saw.specs.Saws.{Sawn, Sawable}
+use Rattle.subtree.proofs.Trees.{holds-fits}
 use Rattle.sheet_plan.specs.declared.Progress.{Progress}
 use Rattle.plan_words.specs.Rows.{headWords}
 use Rattle.sheet_plan.specs.Replaying.{Replayed, WritesSheet, Finishable}

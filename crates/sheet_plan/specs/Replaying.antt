@@ -26,7 +26,8 @@ use Rattle.guillotine.specs.declared.Inserted.{Inserted}
 use Rattle.guillotine.specs.declared.Inserted.the-variants as inserted
 use Rattle.guillotine.specs.Insertions.{Ready}
 use Rattle.subtree.specs.Words.{InCorner}
-use Rattle.guide.specs.Words.{Holds, Guided, Becomes, nextGuide}
+use Rattle.subtree.specs.Words.{Holds}
+use Rattle.guide.specs.Words.{Guided, Becomes, nextGuide}
 use Rattle.candidate.specs.Entries.{cutOf}
 use Rattle.candidate.specs.Stands.{boardIn, makingIn, binIn}
 use Rattle.sheet_plan.specs.declared.Progress.{Progress}

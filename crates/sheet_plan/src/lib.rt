@@ -217,7 +217,7 @@ fn finish_sheet(
     let waste = plan_words::put_waste(plan, behind, rects);
     let nodes = behind + 4 * waste;
     guide::put_nodes(plan, nodes, guide, p.nodes);
-    let saw = guide::saw_length(guide, p.nodes);
+    let saw = saw::saw_length(guide, p.nodes);
     let area = numbers::area(stock.width, stock.length);
     let share = plan_words::used(p.placed, area);
     plan_words::put_head(

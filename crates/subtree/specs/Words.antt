@@ -1,8 +1,9 @@
 -- An insertion's subtree in words: its nodes in preorder, eight words each.
-use Prim.Native.Nat.{ℕ, _+_, _≤_, _<_}
+use Prim.Native.Nat.{ℕ, _+_, _*_, _≤_, _<_}
 use mathlib.Core.Path.{_≡_}
 use mathlib.Core.List.{List, [], _∷_, _++_}
 use mathlib.Core.Option.{Option}
+use lib.ListN.{length, take}
 use Rattle.lists.specs.Base.{concatMap}
 use Rattle.model.specs.declared.Rect.{Rect}
 use Rattle.model.specs.declared.Direction.{Direction}
@@ -39,6 +40,11 @@ guideWords guide = concatMap nodeWords (nodesOf guide)
 
 abbrev pub treeWords : SliceNode → List ℕ
 treeWords tree = concatMap nodeWords (preorder tree)
+
+-- the words start with a guide of this many nodes
+pub record Holds (words : List ℕ) (count : ℕ) (guide : Option SliceNode) : Type 0 where
+  pub counts : count ≡ length (nodesOf guide)
+  pub reads : take (8 * count) words ≡ guideWords guide
 
 -- ---- an insertion
 

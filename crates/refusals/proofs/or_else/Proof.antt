@@ -13,7 +13,7 @@ returns : tie.Need-returns
 returns c = search needs
 
 returns-2 : tie.Need-returns-2
-returns-2 c = cc
+returns-2 c = rw (c .before .first .given .1)
 
 pub or-else-spec : {M : Type 1} → statement M
 or-else-spec = tie.close (tie.spec enum-told enum-known-first returns returns-2)

@@ -5,7 +5,7 @@ use mathlib.Core.Path.{_≡_, sym, ap, _∙_}
 use mathlib.Core.List.{_++_}
 use lib.ListN.{length, take, drop}
 use Rattle.model.specs.TinyPrng.{wrap}
-use Rattle.generator.specs.Shuffle.{shuffled}
+use Rattle.shuffle.specs.Shuffle.{shuffled}
 use Rattle.seeds.specs.Rows.{sortedSeeds}
 use Rattle.seeds.proofs.Nth.{is-sorted, is-shuffled}
 use borrow.Author.Needs.{needs}

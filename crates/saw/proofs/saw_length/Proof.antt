@@ -8,12 +8,13 @@ use lib.ListN.{drop}
 use Rattle.lists.specs.Base.{sum}
 use Rattle.model.specs.Guide.{SliceNode}
 use Rattle.model.specs.Plan.{nodesOf, sawLength}
-use Rattle.guide.specs.Words.{Holds, sawOfGuide}
-use Rattle.guide.proofs.Guides.{holds-fits}
-use Rattle.guide.proofs.Saws.{saw-step, saw-end}
+use Rattle.subtree.specs.Words.{Holds}
+use Rattle.saw.specs.Saws.{sawOfGuide}
+use Rattle.subtree.proofs.Trees.{holds-fits}
+use Rattle.saw.proofs.Saws.{saw-step, saw-end}
 use borrow.Author.Needs.{needs}
-use Rattle.guide.proofs.saw_length.Statement.{statement}
-use Rattle.guide.proofs.saw_length.Tie as tie
+use Rattle.saw.proofs.saw_length.Statement.{statement}
+use Rattle.saw.proofs.saw_length.Tie as tie
 
 abbrev Inv-loop : tie.InvT-loop
 Inv-loop words count total₀ at₀ total at =

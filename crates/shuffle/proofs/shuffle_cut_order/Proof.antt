@@ -1,4 +1,4 @@
--- `generator::shuffle_cut_order` meets its contract. What is left of the shuffle, from the present index, state and list,
+-- `shuffle::shuffle_cut_order` meets its contract. What is left of the shuffle, from the present index, state and list,
 -- gives what the whole one gives.
 use mathlib.Core.Path.{_≡_, refl, sym, ap₂, _∙_}
 use Prim.Native.Nat.{ℕ, pred, _+_, _-_, _*_, _≤_, _<_}
@@ -10,10 +10,10 @@ use denote.Ref.{now}
 use borrow.Author.Needs.{needs, scaled-fits}
 use Rattle.lists.specs.Base.{swap}
 use Rattle.model.specs.TinyPrng.{nextState}
-use Rattle.generator.specs.Shuffle.{shuffledFrom, shuffled}
-use Rattle.generator.proofs.Shuffle.{index-below, turn, over, whole}
-use Rattle.generator.proofs.shuffle_cut_order.Statement.{statement}
-use Rattle.generator.proofs.shuffle_cut_order.Tie as tie
+use Rattle.shuffle.specs.Shuffle.{shuffledFrom, shuffled}
+use Rattle.shuffle.proofs.Shuffle.{index-below, turn, over, whole}
+use Rattle.shuffle.proofs.shuffle_cut_order.Statement.{statement}
+use Rattle.shuffle.proofs.shuffle_cut_order.Tie as tie
 
 abbrev Inv-loop : tie.InvT-loop
 Inv-loop order₀ seed state₀ index₀ order state index =

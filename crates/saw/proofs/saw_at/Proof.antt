@@ -1,9 +1,9 @@
 -- Each branch is the one that the definition's test takes.
 use borrow.Author.Tests.{eq-eqb, ne-eqb}
 use borrow.Author.Needs.{needs}
-use Rattle.guide.specs.Words.{sawAt}
-use Rattle.guide.proofs.saw_at.Statement.{statement}
-use Rattle.guide.proofs.saw_at.Tie as tie
+use Rattle.saw.specs.Saws.{sawAt}
+use Rattle.saw.proofs.saw_at.Statement.{statement}
+use Rattle.saw.proofs.saw_at.Tie as tie
 
 mul-if1 : tie.Need-mul-if1
 mul-if1 c = search needs

@@ -18,7 +18,8 @@ use Rattle.model.specs.Guide.{SliceNode, cut, leaf, free, cutPiece}
 use Rattle.model.specs.Plan.{nodeWords, nodesOf, alongCut, sawLength}
 use Rattle.free_leaf.specs.Leaves.{nodeAt}
 use Rattle.free_leaf.proofs.Searches.{word, kind}
-use Rattle.guide.specs.Words.{Holds, sawAt}
+use Rattle.subtree.specs.Words.{Holds}
+use Rattle.saw.specs.Saws.{sawAt}
 
 along : (o : Direction) (r : Rect) → (if eqb (directionCode o) 0 then r .width else r .length) ≡ alongCut o r
 along Direction.Horizontal r = refl

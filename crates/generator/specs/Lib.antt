@@ -1,2 +1,0 @@
--- The definitions that the contracts of the generator cite.
-pub mod Shuffle
