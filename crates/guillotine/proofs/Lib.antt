@@ -1,3 +1,4 @@
+pub mod Replacing
 pub mod Steps
 pub mod Touching
 pub mod Sheets

@@ -9,7 +9,7 @@ use model::PatternDirection;
 use model::Rect;
 use split::Remainder;
 ghost use mathlib.Core.Path.{_≡_};
-ghost use mathlib.Core.List.{_++_};
+ghost use mathlib.Core.List.{_∷_, [], _++_};
 ghost use Prim.Native.Nat.{_≤_, _<_};
 ghost use lib.ListN.{getD, take, drop};
 ghost use Rattle.lists.specs.Base.{isSome, swapRemove};
@@ -19,8 +19,52 @@ ghost use Rattle.model.specs.Refusal.{mostSide};
 ghost use Rattle.model.specs.Merge.{mergeAdjacentRects, mergesAny};
 ghost use Rattle.split.specs.Remainders.{remainderOf};
 ghost use Rattle.split.specs.Bounds.{Small, Inside};
-ghost use Rattle.rect_words.specs.SheetWords.{rectsIn};
+ghost use Rattle.rect_words.specs.SheetWords.{rectsIn, withRects, mostRects, Block};
 ghost use Rattle.guillotine.specs.Insertions.{touches, touchesAny, others, splitBy, Insertable, At, Replaces, Inserts};
+
+// ---- the rectangles changed in place (`swap_remove`, `push`)
+
+// The last rectangle takes the place of the one at the index.
+fn remove_at(sheet: &mut [u32], index: usize)
+    requires { ⌜ Block (now sheet) × (index < getD (now sheet) 0 0) ⌝ }
+    ensures { λ _. ⌜ now (sheet .exit) ≡ withRects (swapRemove noRect index (rectsIn (now (sheet .entry)))) (now (sheet .entry)) ⌝ }
+{
+    let last = sheet[0] as usize - 1;
+    let rect = rect_words::rect_at(sheet, last);
+    sheet[0] = last as u32;
+    rect_words::put_rect(sheet, index, rect);
+}
+
+fn push_rect(sheet: &mut [u32], rect: Rect)
+    requires { ⌜ Block (now sheet) × (getD (now sheet) 0 0 < mostRects) ⌝ }
+    ensures { λ _. ⌜ now (sheet .exit) ≡ withRects (rectsIn (now (sheet .entry)) ++ (rect ∷ [])) (now (sheet .entry)) ⌝ }
+{
+    let count = sheet[0] as usize;
+    sheet[0] = (count + 1) as u32;
+    rect_words::put_rect(sheet, count, rect);
+}
+
+fn push_remainder(sheet: &mut [u32], remainder: Remainder)
+    requires { ⌜ Block (now sheet) × (getD (now sheet) 0 0 < mostRects) ⌝ }
+    ensures { λ _. ⌜ now (sheet .exit) ≡ withRects (rectsIn (now (sheet .entry)) ++ remainderOf remainder) (now (sheet .entry)) ⌝ }
+{
+    match remainder {
+        Remainder::Nothing => {}
+        Remainder::One(rect) => push_rect(sheet, rect),
+    }
+}
+
+// The rectangle at the index gives way to the remainders.
+fn replace(sheet: &mut [u32], index: usize, bottom: Remainder, right: Remainder)
+    requires { ⌜ Block (now sheet) × (index < getD (now sheet) 0 0) × (getD (now sheet) 0 0 < mostRects) ⌝ }
+    ensures { λ _. ⌜ now (sheet .exit) ≡ withRects (swapRemove noRect index (rectsIn (now (sheet .entry))) ++ (remainderOf bottom ++ remainderOf right)) (now (sheet .entry)) ⌝ }
+{
+    remove_at(sheet, index);
+    push_remainder(sheet, bottom);
+    push_remainder(sheet, right);
+}
+
+// ---- the test for a merge
 
 // Whether two rectangles merge.
 fn merges(left: Rect, right: Rect, kerf_width: u32) -> bool
@@ -100,6 +144,8 @@ fn merges_any(
     remainders_merge(bottom, right, kerf_width)
 }
 
+// ---- the insertion
+
 // The insertion with merges, on the rectangles by value.
 fn insert_merging(
     sheet: &mut [u32],
@@ -145,7 +191,7 @@ fn insert_at(
     if merges_any(sheet, kerf_width, index, bottom, right) {
         return insert_merging(sheet, kerf_width, index, free_rect, placed, direction);
     }
-    rect_words::replace(sheet, index, bottom, right);
+    replace(sheet, index, bottom, right);
     false
 }
 

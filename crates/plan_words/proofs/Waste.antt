@@ -1,14 +1,11 @@
 -- The free rectangles' words are the plan's waste.
 use Prim.Native.Nat.{ℕ, zero, suc, _+_, _*_, _≤_, _<_}
-use native.Mathlib.Numerals.{add-one}
 use native.Mathlib.Omega.{arith}
 use mathlib.Core.Path.{_≡_, refl, sym, ap, _∙_}
 use mathlib.Core.List.{List, [], _∷_, _++_, map}
-use lib.ListN.{length, getD, set, take, drop, length-drop}
-use lib.Seq.{drop-cons, drop-drop, take-add, getD-drop, paste, paste-suc}
+use lib.ListN.{length, getD, take, drop}
+use lib.Seq.{drop-cons, drop-drop, take-add}
 use Rattle.lists.specs.Base.{countFrom, concatMap}
-use Rattle.lists.specs.Parts.{patch}
-use Rattle.lists.proofs.Parts.{paste-patch}
 use Rattle.model.specs.Plan.{rectWords}
 use Rattle.rect_words.specs.SheetWords.{rectAt, rectsIn}
 
@@ -39,17 +36,3 @@ rects-from w i (suc n) h =
 pub waste-words : (w : List ℕ) → 4 * getD w 0 0 + 1 ≤ length w → take (4 * getD w 0 0) (drop 1 w) ≡ concatMap rectWords (rectsIn w)
 unfolding rectsIn
 waste-words w h = sym (rects-from w 0 (getD w 0 0) (omega arith))
-
--- a turn of the loop that copies them, and its end
-module _ (p w v : List ℕ) (at i : ℕ) (e : v ≡ paste p at (drop 1 w) i) where
-  pub waste-turn : i + 1 < length w → at + i < length p → set v (at + i) (getD w (i + 1) 0) ≡ paste p at (drop 1 w) (i + 1)
-  waste-turn h k =
-      let same : i + 1 ≡ 1 + i = omega arith in
-      ap (λ (l : List ℕ). set l (at + i) (getD w (i + 1) 0)) e
-      ∙ ap (λ (x : ℕ). set (paste p at (drop 1 w) i) (at + i) x) (ap (λ (m : ℕ). getD w m 0) same ∙ sym (getD-drop 1 w i 0))
-      ∙ paste-suc p at (drop 1 w) i 0 k (omega (arith, length-drop 1 w))
-      ∙ ap (paste p at (drop 1 w)) (sym (add-one i))
-
-  pub waste-end : 4 * getD w 0 0 ≡ i → 4 * getD w 0 0 + 1 ≤ length w → v ≡ patch p at (concatMap rectWords (rectsIn w))
-  waste-end f h =
-      e ∙ ap (paste p at (drop 1 w)) (sym f) ∙ paste-patch p at (drop 1 w) (4 * getD w 0 0) (omega (arith, length-drop 1 w)) ∙ ap (patch p at) (waste-words w h)

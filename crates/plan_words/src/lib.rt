@@ -4,7 +4,7 @@ use model::FitResult;
 use model::PatternDirection;
 use model::StockInstance;
 ghost use mathlib.Core.Path.{_≡_};
-ghost use Prim.Native.Nat.{_+_, _*_, _/_, _%_, _^_, _≤_, _<_};
+ghost use Prim.Native.Nat.{_+_, _*_, _/_, _%_, _^_, _≤_};
 ghost use lib.ListN.{length, getD};
 ghost use Rattle.lists.specs.Base.{concatMap};
 ghost use Rattle.lists.specs.Parts.{patch};
@@ -72,12 +72,7 @@ pub fn put_waste(plan: &mut [u32], at: usize, rects: &[u32]) -> usize
     ensures { λ r. ⌜ (now (plan .exit) ≡ patch (now (plan .entry)) at (concatMap rectWords (rectsIn (now (rects .entry))))) × (r ≡ length (rectsIn (now (rects .entry)))) ⌝ }
 {
     let count = rects[0] as usize;
-    let n = 4 * count;
-    let mut i: usize = 0;
-    while i < n {
-        plan[at + i] = rects[i + 1];
-        i += 1;
-    }
+    copying::put_words(plan, at, &rects[1..], 4 * count);
     count
 }
 
@@ -99,12 +94,4 @@ pub fn put_head(
     copying::put_four(plan, at, low(id), high(id), stock.instance, stock.width);
     copying::put_four(plan, at + 4, stock.length, used, saw, pieces);
     copying::put_two(plan, at + 8, waste, nodes)
-}
-
-// The share of a board that is placed, in thousandths.
-pub fn used(placed: u64, board: u64) -> u32
-    requires { ⌜ (0 < board) × (placed ≤ board) × (board ≤ 1000000000000) ⌝ }
-    ensures { λ r. ⌜ r ≡ placed * 1000 / board ⌝ }
-{
-    (placed * 1000 / board) as u32
 }

@@ -1,18 +1,13 @@
-// A sheet's free rectangles in lent words: read, written, and changed in place (`GuillotineSheet::new`, `swap_remove`, `push`).
+// A sheet's free rectangles in lent words, read and written (`GuillotineSheet::new`).
 use free_rects::FreeRects;
 use model::Rect;
-use split::Remainder;
 ghost use mathlib.Core.Path.{_≡_};
-ghost use mathlib.Core.List.{_∷_, [], _++_};
+ghost use mathlib.Core.List.{_∷_, []};
 ghost use Prim.Native.Nat.{_≤_, _<_};
-ghost use lib.ListN.{length, getD};
-ghost use Rattle.lists.specs.Base.{swapRemove};
-ghost use Rattle.model.specs.Types.{rect, noRect};
+ghost use lib.ListN.{length};
+ghost use Rattle.model.specs.Types.{rect};
 ghost use Rattle.free_rects.specs.FreeList.{rectsOf, Holds};
-ghost use Rattle.split.specs.Remainders.{remainderOf};
 ghost use Rattle.rect_words.specs.SheetWords.{rectAt, rectsIn, putRect, putRects, withRects, mostRects, blockWords, Block};
-
-// ---- rectangles in words
 
 pub fn rect_at(sheet: &[u32], index: usize) -> Rect
     requires { ⌜ (index < mostRects) × (blockWords ≤ length (now sheet)) ⌝ }
@@ -27,7 +22,7 @@ pub fn rect_at(sheet: &[u32], index: usize) -> Rect
     }
 }
 
-fn put_rect(sheet: &mut [u32], index: usize, rect: Rect)
+pub fn put_rect(sheet: &mut [u32], index: usize, rect: Rect)
     requires { ⌜ (index < mostRects) × (blockWords ≤ length (now sheet)) ⌝ }
     ensures { λ _. ⌜ now (sheet .exit) ≡ putRect (now (sheet .entry)) index rect ⌝ }
 {
@@ -103,46 +98,4 @@ pub fn new_sheet(sheet: &mut [u32], width: u32, length: u32)
     };
     sheet[0] = 1;
     put_rect(sheet, 0, board);
-}
-
-// ---- changes in place
-
-// The last rectangle takes the place of the one at the index.
-fn remove_at(sheet: &mut [u32], index: usize)
-    requires { ⌜ Block (now sheet) × (index < getD (now sheet) 0 0) ⌝ }
-    ensures { λ _. ⌜ now (sheet .exit) ≡ withRects (swapRemove noRect index (rectsIn (now (sheet .entry)))) (now (sheet .entry)) ⌝ }
-{
-    let last = sheet[0] as usize - 1;
-    let rect = rect_at(sheet, last);
-    sheet[0] = last as u32;
-    put_rect(sheet, index, rect);
-}
-
-fn push_rect(sheet: &mut [u32], rect: Rect)
-    requires { ⌜ Block (now sheet) × (getD (now sheet) 0 0 < mostRects) ⌝ }
-    ensures { λ _. ⌜ now (sheet .exit) ≡ withRects (rectsIn (now (sheet .entry)) ++ (rect ∷ [])) (now (sheet .entry)) ⌝ }
-{
-    let count = sheet[0] as usize;
-    sheet[0] = (count + 1) as u32;
-    put_rect(sheet, count, rect);
-}
-
-fn push_remainder(sheet: &mut [u32], remainder: Remainder)
-    requires { ⌜ Block (now sheet) × (getD (now sheet) 0 0 < mostRects) ⌝ }
-    ensures { λ _. ⌜ now (sheet .exit) ≡ withRects (rectsIn (now (sheet .entry)) ++ remainderOf remainder) (now (sheet .entry)) ⌝ }
-{
-    match remainder {
-        Remainder::Nothing => {}
-        Remainder::One(rect) => push_rect(sheet, rect),
-    }
-}
-
-// The rectangle at the index gives way to the remainders.
-pub fn replace(sheet: &mut [u32], index: usize, bottom: Remainder, right: Remainder)
-    requires { ⌜ Block (now sheet) × (index < getD (now sheet) 0 0) × (getD (now sheet) 0 0 < mostRects) ⌝ }
-    ensures { λ _. ⌜ now (sheet .exit) ≡ withRects (swapRemove noRect index (rectsIn (now (sheet .entry))) ++ (remainderOf bottom ++ remainderOf right)) (now (sheet .entry)) ⌝ }
-{
-    remove_at(sheet, index);
-    push_remainder(sheet, bottom);
-    push_remainder(sheet, right);
 }

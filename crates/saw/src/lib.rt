@@ -1,6 +1,6 @@
-// How far a sheet's guide has the saw go: its nodes in eight words each, as in `guide`.
+// A sheet's saw and use: how far its guide has the saw go, whose nodes are in eight words each as in `guide`, and how much of its board is placed.
 ghost use mathlib.Core.Path.{_≡_};
-ghost use Prim.Native.Nat.{_+_, _*_, _≤_};
+ghost use Prim.Native.Nat.{_+_, _*_, _/_, _≤_, _<_};
 ghost use lib.ListN.{length};
 ghost use Rattle.saw.specs.Saws.{sawAt, Sawn, Sawable};
 
@@ -29,4 +29,12 @@ pub fn saw_length(words: &[u32], count: usize) -> u32
         at += 1;
     }
     total
+}
+
+// The share of a board that is placed, in thousandths.
+pub fn used(placed: u64, board: u64) -> u32
+    requires { ⌜ (0 < board) × (placed ≤ board) × (board ≤ 1000000000000) ⌝ }
+    ensures { λ r. ⌜ r ≡ placed * 1000 / board ⌝ }
+{
+    (placed * 1000 / board) as u32
 }

@@ -1,25 +1,13 @@
 -- The order of two scores by each of the ways out of the comparing functions.
-use mathlib.Core.Path.{_≡_, refl}
-use mathlib.Core.Bool.{Bool, true, false}
+use mathlib.Core.Path.{_≡_}
 use Prim.Native.Nat.{_<_, Ordering·lt, Ordering·eq, Ordering·gt}
 use native.Mathlib.Omega.{arith}
 use borrow.Author.Tests.{eq-eqb, ne-eqb}
-use lib.Ieee.{Float, lt}
-use Rattle.lists.specs.Base.{if_then_else_, isLess}
 use Rattle.lists.proofs.Preorder.{compare-is}
 use Rattle.model.specs.Fitness.{compareFloat, compareFitness}
 use Rattle.model.specs.Candidate.{compareScore}
 use Rattle.scores.specs.declared.CandidateScore.{CandidateScore}
 use Rattle.scores.specs.Scores.{scoreOf}
-
-pub isLess-float : (a b : Float) → lt a b ≡ isLess (compareFloat a b)
-unfolding compareFloat
-isLess-float a b = go (lt a b) (lt b a)
-  where
-    go : (p q : Bool) → p ≡ isLess (if p then Ordering·lt else if q then Ordering·gt else Ordering·eq)
-    go true q = refl
-    go false true = refl
-    go false false = refl
 
 module _ (l r : CandidateScore) where
   pub more-sheets : r .«used_stock_count» < l .«used_stock_count» → Ordering·lt ≡ compareScore (scoreOf l) (scoreOf r)

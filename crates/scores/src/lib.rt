@@ -22,6 +22,16 @@ fn is_greater(o: Ordering) -> bool
     }
 }
 
+fn is_less(o: Ordering) -> bool
+    ensures { λ r. ⌜ r ≡ isLess (orderingOf o) ⌝ }
+{
+    match o {
+        Ordering::Less => true,
+        Ordering::Equal => false,
+        Ordering::Greater => false,
+    }
+}
+
 // The fitness counts only where a sheet is used: a candidate of no sheets has none.
 pub struct CandidateScore {
     pub used_stock_count: usize,
@@ -94,5 +104,5 @@ pub fn is_fitter(left: f64, right: f64) -> bool
 pub fn is_less_fit(left: f64, right: f64) -> bool
     ensures { λ r. ⌜ r ≡ isLess (compareFloat left right) ⌝ }
 {
-    left < right
+    is_less(compare_fitness(left, right))
 }

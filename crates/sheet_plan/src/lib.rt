@@ -219,7 +219,7 @@ fn finish_sheet(
     guide::put_nodes(plan, nodes, guide, p.nodes);
     let saw = saw::saw_length(guide, p.nodes);
     let area = numbers::area(stock.width, stock.length);
-    let share = plan_words::used(p.placed, area);
+    let share = saw::used(p.placed, area);
     plan_words::put_head(
         plan,
         at,

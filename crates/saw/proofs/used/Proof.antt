@@ -2,8 +2,8 @@
 use native.Mathlib.Nat.{div-le-of-le-mul, mul-le-mul-right}
 use native.Mathlib.Omega.{arith}
 use borrow.Author.Needs.{needs}
-use Rattle.plan_words.proofs.used.Statement.{statement}
-use Rattle.plan_words.proofs.used.Tie as tie
+use Rattle.saw.proofs.used.Statement.{statement}
+use Rattle.saw.proofs.used.Tie as tie
 
 mul-result : tie.Need-mul-result
 mul-result c = search needs

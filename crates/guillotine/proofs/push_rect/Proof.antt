@@ -1,12 +1,12 @@
--- `rect_words::push_rect` meets its contract: a rectangle behind the last.
+-- `guillotine::push_rect` meets its contract: a rectangle behind the last.
 use mathlib.Core.Path.{_∙_}
 use native.Mathlib.Omega.{arith}
 use denote.Ref.{now}
 use lib.ListN.{length-set}
 use borrow.Author.Needs.{needs}
 use Rattle.rect_words.proofs.Words.{push-words}
-use Rattle.rect_words.proofs.push_rect.Statement.{statement}
-use Rattle.rect_words.proofs.push_rect.Tie as tie
+use Rattle.guillotine.proofs.push_rect.Statement.{statement}
+use Rattle.guillotine.proofs.push_rect.Tie as tie
 
 slice-read-count : tie.Need-slice-read-count
 slice-read-count c = search needs

@@ -1,13 +1,13 @@
--- `rect_words::push_remainder` meets its contract: one push or none.
+-- `guillotine::push_remainder` meets its contract: one push or none.
 use mathlib.Core.List.{append-nil}
 use mathlib.Core.Path.{sym}
 use native.Mathlib.Omega.{arith}
 use denote.Ref.{now}
 use borrow.Author.Needs.{needs}
 use Rattle.rect_words.specs.SheetWords.{rectsIn}
 use Rattle.rect_words.proofs.Words.{with-same}
-use Rattle.rect_words.proofs.push_remainder.Statement.{statement}
-use Rattle.rect_words.proofs.push_remainder.Tie as tie
+use Rattle.guillotine.proofs.push_remainder.Statement.{statement}
+use Rattle.guillotine.proofs.push_remainder.Tie as tie
 
 enum-told : tie.Need-enum-told
 enum-told c = search needs

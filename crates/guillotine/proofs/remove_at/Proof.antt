@@ -1,13 +1,13 @@
--- `rect_words::remove_at` meets its contract: the last rectangle in the place of another.
+-- `guillotine::remove_at` meets its contract: the last rectangle in the place of another.
 use mathlib.Core.Path.{_≡_, _∙_}
 use Prim.Native.Nat.{suc, _-_}
 use native.Mathlib.Omega.{arith}
 use denote.Ref.{now}
 use lib.ListN.{getD, length-set}
 use borrow.Author.Needs.{needs}
 use Rattle.rect_words.proofs.Words.{remove-words}
-use Rattle.rect_words.proofs.remove_at.Statement.{statement}
-use Rattle.rect_words.proofs.remove_at.Tie as tie
+use Rattle.guillotine.proofs.remove_at.Statement.{statement}
+use Rattle.guillotine.proofs.remove_at.Tie as tie
 
 slice-read-last : tie.Need-slice-read-last
 slice-read-last c = search needs

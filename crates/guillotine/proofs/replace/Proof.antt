@@ -1,9 +1,9 @@
--- `rect_words::replace` meets its contract: a removal and two pushes in a row.
+-- `guillotine::replace` meets its contract: a removal and two pushes in a row.
 use denote.Ref.{now}
 use borrow.Author.Needs.{needs}
-use Rattle.rect_words.proofs.Replacing.{ready-first, ready-second, with-both}
-use Rattle.rect_words.proofs.replace.Statement.{statement}
-use Rattle.rect_words.proofs.replace.Tie as tie
+use Rattle.guillotine.proofs.Replacing.{ready-first, ready-second, with-both}
+use Rattle.guillotine.proofs.replace.Statement.{statement}
+use Rattle.guillotine.proofs.replace.Tie as tie
 
 remove-at-requires : tie.Need-remove-at-requires
 remove-at-requires c κs = search needs
