@@ -29,7 +29,7 @@ ghost use Rattle.search.specs.Regions.{Region, behindSlots, PushesChild}
 ghost use Rattle.search.specs.Improved.{improved, FromSeed, Improves};
 
 // The slots of a region: 32 survivors and 16 children.
-pub const MOST: usize = 48;
+const MOST: usize = 48;
 
 // ---- the first population
 
