@@ -1,4 +1,6 @@
 // Whether two free rectangles lie a kerf apart along a common side, and what they make: `merge_adjacent_rects`.
+#![tactic(auto)]
+
 ghost use Rattle.std.specs.Prelude.{◌≡◌, ◌≤◌};
 ghost use Rattle.std.proofs.Math.Option.{some};
 ghost use Rattle.model.specs.Refusal.{most_side};
@@ -8,7 +10,7 @@ ghost use Rattle.adjacent.specs.Merged.{same_column, same_row, merge_in_row, mer
 
 use model::Rect;
 
-#[derive(Drop)]
+#[derive(Clone, Copy)]
 pub enum Merged {
     Into(Rect),
     Nothing,

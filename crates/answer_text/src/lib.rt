@@ -1,4 +1,6 @@
 // The text of the planner's answer to a project file, as `cutplan` prints it (document 01, "Plan").
+#![tactic(auto)]
+
 ghost use Rattle.append.specs.Appending.{Appended, Front};
 ghost use Rattle.answer_text.specs.Text.{refusal_text, file_text};
 

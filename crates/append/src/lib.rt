@@ -1,5 +1,7 @@
 // Bytes and numbers put into a lent buffer, one after the other. What does not fit is left out, and the position then stays at the
 // buffer's end: every function's contract says so, by the one relation `Appended`.
+#![tactic(auto)]
+
 ghost use Rattle.std.specs.Prelude.{[], ◌∷◌, ◌≤◌, ◌<◌, ◌≡◌, length};
 ghost use Rattle.model.specs.FileOf.{bytes_of};
 ghost use Rattle.append.specs.Appending.{Appended};

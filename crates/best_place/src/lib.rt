@@ -1,4 +1,6 @@
 // The best place of a cut among a sheet's free rectangles: the first fit of lowest score. A search that finds none reads two words a rectangle.
+#![tactic(auto)]
+
 ghost use Rattle.std.specs.Prelude.{◌≡◌, ◌∷◌, [], map, ◌≤◌, drop};
 ghost use Rattle.lists.specs.Base.{is_less, lexicographic};
 ghost use Rattle.choice.specs.Numbers.{numbers_of};
@@ -30,7 +32,7 @@ fn next_fit(sheet: &[u32], ways: Ways, width: u32, length: u32, from: usize) -> 
 }
 
 // The first fit of lowest score so far: the place of its free rectangle, the rectangle, the fit and its score.
-#[derive(Drop)]
+#[derive(Clone, Copy)]
 pub enum BestFit {
     Nothing,
     At {

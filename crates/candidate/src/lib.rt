@@ -1,5 +1,7 @@
 // A candidate and what is done to one: `Candidate`, `StockInventory` and `CutCatalog` of the optimizer. Boards and cuts are known by
 // their places in the instance's tables, and a sheet by its board and its insertions; its free rectangles are lent words.
+#![tactic(auto)]
+
 ghost use Rattle.std.specs.Prelude.{◌≡◌, ◌+◌, ◌≤◌, ◌<◌, get_or};
 ghost use Rattle.candidate.specs.Entries.{choice_code, split_code, rotation_code, heuristic_code, choice_of, split_of, rotation_of, heuristic_of, insertion_word, board_of, cut_of, row_of};
 ghost use Rattle.candidate.specs.Moves.{new_words, moved_up, with_insertion, with_unused, take_place};
@@ -9,14 +11,14 @@ use model::{
 };
 
 // An instance beside its two tables: the kerf, and how many rows each table has.
-#[derive(Drop)]
+#[derive(Clone, Copy)]
 pub struct Instance {
     pub kerf_width: u32,
     pub stock: usize,
     pub cuts: usize,
 }
 
-#[derive(Drop)]
+#[derive(Clone, Copy)]
 pub struct Candidate {
     // the boards: those of the sheets, in sheet order, then the available ones
     pub boards: [u32; 64],

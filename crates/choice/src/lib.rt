@@ -1,5 +1,7 @@
 // How well a piece lies in a free rectangle, and in which direction the rest is split: `free_rect_choice_score` and
 // `split_direction` of the optimizer, with what they call.
+#![tactic(auto)]
+
 ghost use Rattle.std.specs.Prelude.{◌≡◌, ◌-◌, min, max};
 ghost use Rattle.model.specs.Choice.{free_rect_choice_score};
 ghost use Rattle.model.specs.Split.{split_direction};
@@ -35,7 +37,7 @@ fn greater(a: u32, b: u32) -> u32
 }
 
 // What a placed piece leaves of its free rectangle: the area, and the shorter and the longer of the two sides.
-#[derive(Drop)]
+#[derive(Clone, Copy)]
 pub struct Waste {
     pub area: u64,
     pub short: u64,
@@ -60,7 +62,7 @@ fn waste_left(free_rect: Rect, placed: Rect) -> Waste
 }
 
 // A score, compared field by field in this order; the lowest is best.
-#[derive(Drop)]
+#[derive(Clone, Copy)]
 pub struct Score {
     pub first: u64,
     pub second: u64,

@@ -1,5 +1,7 @@
 // Reads a project file from standard input and prints its plan, or `refused N`. No project has more than 3,104 bytes, so no more than one byte
 // past that is read.
+#![tactic(auto)]
+
 use libc::{STDIN_FILENO, STDOUT_FILENO};
 
 fn main() {

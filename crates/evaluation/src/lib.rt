@@ -1,4 +1,6 @@
 // What a candidate is worth: the areas and the fitness of its sheets, its validity and its score.
+#![tactic(auto)]
+
 ghost use Rattle.std.specs.Prelude.{◌≡◌, List, [], map, ◌≤◌, ◌<◌, ◌^◌, length, take};
 ghost use Rattle.std.proofs.Math.Option.{some};
 ghost use Rattle.lists.specs.Base.{sum, range};
@@ -19,7 +21,7 @@ use scores::CandidateScore;
 // ---- areas and fitness of the sheets
 
 // Of each sheet its placed area and its board's area.
-#[derive(Drop)]
+#[derive(Clone, Copy)]
 pub struct Areas {
     pub placed: [u64; 64],
     pub stock: [u64; 64],

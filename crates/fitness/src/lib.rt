@@ -1,4 +1,6 @@
 // Fitness in f64, each quotient, product and sum rounded once, in sheet order.
+#![tactic(auto)]
+
 ghost use Rattle.std.specs.Prelude.{◌≡◌, ◌^◌, ◌<◌, ◌≤◌, length, take, to_bits};
 ghost use Rattle.std.proofs.Math.Option.{get_or};
 ghost use Rattle.std.specs.Float.{binary64};

@@ -1,4 +1,6 @@
 // The fits of a cut in a free rectangle: `fit_cut_in_rects` of the optimizer, with what it calls.
+#![tactic(auto)]
+
 ghost use Rattle.std.specs.Prelude.{◌≡◌, ◌&&◌, ◌++◌, leb};
 ghost use Rattle.model.specs.Fit.{upright_result, rotated_result, fit_cut_in_rects, cut_fits_stock};
 ghost use Rattle.fits.specs.FitList.{if_lies, fits_of};
@@ -30,7 +32,7 @@ pub fn lies_any_way(ways: Ways, width: u32, length: u32, free_width: u32, free_l
 }
 
 // The fits of a cut in a free rectangle, in the order of preference.
-#[derive(Drop)]
+#[derive(Clone, Copy)]
 pub enum Fits {
     Nothing,
     One(FitResult),

@@ -1,4 +1,6 @@
 // The search for a free leaf in the words of a guide, whose nodes are numbered in preorder: a cut before its first and its second child.
+#![tactic(auto)]
+
 ghost use Rattle.std.specs.Prelude.{◌≡◌, ◌+◌, ◌*◌, ◌≤◌, length};
 ghost use Rattle.model.specs.Types.{same_rect};
 ghost use Rattle.free_leaf.specs.Leaves.{rect_at, leaf_at, Formed, Ends};
@@ -6,7 +8,7 @@ ghost use Rattle.free_leaf.specs.Leaves.{rect_at, leaf_at, Formed, Ends};
 use model::Rect;
 
 // Where a search ends: at the node looked for, or past the nodes of the tree.
-#[derive(Drop)]
+#[derive(Clone, Copy)]
 pub enum Found {
     At(usize),
     Past(usize),

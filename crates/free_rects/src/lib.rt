@@ -1,5 +1,7 @@
 // The free rectangles of a sheet by value: `swap_remove` and `push` of a vector, and the split of a rectangle
 // (`split_free_rect_in_direction`).
+#![tactic(auto)]
+
 ghost use Rattle.std.specs.Prelude.{◌≡◌, ◌∷◌, [], ◌++◌, ◌≤◌, ◌<◌};
 ghost use Rattle.lists.specs.Base.{swap_remove};
 ghost use Rattle.model.specs.Types.{no_rect};
@@ -12,7 +14,7 @@ use model::{Direction, Rect};
 use split::Remainder;
 
 // A sheet of 64 pieces has at most 65 free rectangles.
-#[derive(Drop)]
+#[derive(Clone, Copy)]
 pub struct FreeRects {
     pub rects: [Rect; 65],
     pub count: usize,

@@ -1,4 +1,6 @@
 // The generator of the source, `TinyPrng`.
+#![tactic(auto)]
+
 ghost use Rattle.std.specs.Prelude.{◌≡◌, ◌*◌, ◌%◌, ◌^◌, ◌<◌};
 ghost use Rattle.model.specs.TinyPrng.{next_state, value_of, index_of};
 

@@ -1,5 +1,7 @@
 // Writes published outputs of SplitMix64, from the seeds 1234567 and 0, one to a line, and the shuffles of ten numbers at
 // the seeds 0 and 1.
+#![tactic(auto)]
+
 use libc::STDOUT_FILENO;
 
 fn end() {

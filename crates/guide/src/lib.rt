@@ -1,5 +1,7 @@
 // The cutting guide of one sheet while its making is replayed: its nodes numbered in preorder, a cut before its first and
 // its second child, in eight words each as the plan has them. A guide of no nodes is none.
+#![tactic(auto)]
+
 ghost use Rattle.std.specs.Prelude.{◌≡◌, ◌+◌, ◌*◌, ◌≤◌, ◌<◌, length, take};
 ghost use Rattle.std.proofs.Math.Option.{some};
 ghost use Rattle.lists.specs.Parts.{patch};

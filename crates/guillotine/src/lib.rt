@@ -1,4 +1,6 @@
 // The insertion of a cut into a sheet at its best place (`GuillotineSheet::try_insert`).
+#![tactic(auto)]
+
 ghost use Rattle.std.specs.Prelude.{◌≡◌, ◌∷◌, [], ◌++◌, ◌≤◌, ◌<◌, get_or, take, drop};
 ghost use Rattle.lists.specs.Base.{is_some, swap_remove};
 ghost use Rattle.lists.proofs.Perm.{All};
@@ -187,7 +189,7 @@ fn insert_at(
 }
 
 // Where the cut was inserted, and whether free rectangles merged then.
-#[derive(Drop)]
+#[derive(Clone, Copy)]
 pub enum Inserted {
     Nothing,
     At {

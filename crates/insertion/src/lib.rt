@@ -1,5 +1,7 @@
 // One attempt to insert a cut into a sheet's free rectangles, for a driver in Rust that times it beside the source's. The words tell
 // whether it found a place: an insertion changes them.
+#![tactic(auto)]
+
 ghost use Rattle.std.specs.Prelude.{◌≡◌};
 ghost use Rattle.model.specs.Search.{heuristic_variants, default_heuristic};
 ghost use Rattle.guillotine.specs.Insertions.{Insertable};

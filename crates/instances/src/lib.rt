@@ -1,4 +1,6 @@
 // The instance tables of a project: boards in the order of first fit, panels in file order, as rows of words.
+#![tactic(auto)]
+
 ghost use Rattle.std.specs.Prelude.{◌≡◌, [], ◌∷◌, ℕ, ◌+◌, ◌*◌, ◌/◌, ◌%◌, ◌^◌, ◌≤◌, ◌<◌, eqb, length, get_or, take, drop};
 ghost use Rattle.std.proofs.Math.Option.{none};
 ghost use Rattle.lists.specs.Base.{concat_map, range};
@@ -141,13 +143,13 @@ fn copy_rows(table: &[u32], order: &[u32], count: usize, words: &mut [u32])
 // ---- tables
 
 // Instances as rows of words, 6 for a board and 7 for a panel, and how many there are.
-#[derive(Drop)]
+#[derive(Clone, Copy)]
 pub struct StockTable {
     pub words: [u32; 384],
     pub count: usize,
 }
 
-#[derive(Drop)]
+#[derive(Clone, Copy)]
 pub struct CutTable {
     pub words: [u32; 448],
     pub count: usize,

@@ -138,8 +138,8 @@ module _ {A : Type 0} where
   ins_perm : {a : A} {xs as' bs : List A} → Perm as' bs → Ins a xs as' → Without a xs bs
   ins_perm done i = absurd (ins_cons≢nil i refl)
   ins_perm (keep x {xs = us} {ys = vs} p) (here e) = record { less = vs; ins = here e; perm = p }
-  ins_perm (keep x p) (there i) =
-      let w = ins_perm p i in
+  ins_perm (keep x p) (there {xs = us} i) =
+      let w = ins_perm {xs = us} p i in
       record { less = x ∷ w.less; ins = there w.ins; perm = keep x w.perm }
   ins_perm (flip x y zs) (here e) = record { less = y ∷ zs; ins = there (here e); perm = perm_refl (y ∷ zs) }
   ins_perm (flip x y zs) (there (here e)) = record { less = x ∷ zs; ins = here e; perm = perm_refl (x ∷ zs) }

@@ -1,1 +1,2 @@
 // Lists: what the definitions share, and laws for every crate above. No code.
+#![tactic(auto)]

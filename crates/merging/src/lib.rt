@@ -1,4 +1,6 @@
 // The merging of a sheet's free rectangles: `merge_free_rects`.
+#![tactic(auto)]
+
 ghost use Rattle.std.specs.Prelude.{◌≡◌, ◌<◌, ◌+◌, max};
 ghost use Rattle.model.specs.Merge.{first_pair};
 ghost use Rattle.free_rects.specs.FreeList.{rects_of};
@@ -9,7 +11,7 @@ use free_rects::FreeRects;
 use model::Rect;
 
 // The first pair of rectangles that merge, by the left and then by the right one, and what they make.
-#[derive(Drop)]
+#[derive(Clone, Copy)]
 pub enum FoundPair {
     Nothing,
     At {

@@ -1,1 +1,3 @@
 pub mod Memory
+pub mod Stars
+pub mod Plans

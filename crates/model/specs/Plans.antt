@@ -1,10 +1,8 @@
--- Plans of all three efforts, each with something that decides it, proved by computation.
+-- Plans of all three efforts, each with something that decides it. proofs/Plans shows that the definition finds them.
 -- (Written by tools/write_tables.py; the answers are the Rust's.)
-use Rattle.std.specs.Prelude.{ℕ, ◌≡◌, refl, List, [], ◌∷◌, map}
-use Rattle.model.specs.Answer.{Answer, plan, refused, answer}
-use Rattle.model.specs.Evaluate.{evaluate}
+use Rattle.std.specs.Prelude.{ℕ, List, [], ◌∷◌}
+use Rattle.model.specs.Answer.{Answer, plan, refused}
 use Rattle.model.specs.FileOf.{file}
-use Rattle.model.specs.Stars.{cases, stars}
 
 unfoldable pub decided : List (List ℕ × Answer)
 decided =
@@ -207,8 +205,3 @@ decided =
           ∷ 1 ∷ 7 ∷ 0 ∷ 1 ∷ 0 ∷ 4 ∷ 7 ∷ 3 ∷ []),
     )
     ∷ []
-
--- the ★ cases and these
-pub plans : (map (λ c. answer c.0) cases ≡ map (λ c. c.1) cases) × (map (λ c. answer c.0) decided ≡ map (λ c. c.1) decided)
-unfolding evaluate decided file
-plans = (stars.0, refl)

@@ -1,47 +1,48 @@
 // The declared types of the panel-cutting optimizer, under the names of its Rust source:
 // src/domain, src/render and src/optimizer. What they mean together is said in specs/.
+#![tactic(auto)]
 
-#[derive(Drop)]
+#[derive(Clone, Copy)]
 pub enum PatternDirection {
     None,
     ParallelToWidth,
     ParallelToLength,
 }
 
-#[derive(Drop)]
+#[derive(Clone, Copy)]
 pub enum LayoutKind {
     Guillotine,
     Nested,
 }
 
-#[derive(Drop)]
+#[derive(Clone, Copy)]
 pub enum OptimizerEffort {
     Fast,
     Balanced,
     Thorough,
 }
 
-#[derive(Drop)]
+#[derive(Clone, Copy)]
 pub enum GuillotineRectChoice {
     Area,
     ShortSide,
     LongSide,
 }
 
-#[derive(Drop)]
+#[derive(Clone, Copy)]
 pub enum GuillotineSplitHeuristic {
     Horizontal,
     LongerAxis,
     MaximizeArea,
 }
 
-#[derive(Drop)]
+#[derive(Clone, Copy)]
 pub enum RotationPreference {
     PreferUpright,
     PreferRotated,
 }
 
-#[derive(Drop)]
+#[derive(Clone, Copy)]
 pub struct BaselineGuillotineHeuristic {
     pub rect_choice: GuillotineRectChoice,
     pub split: GuillotineSplitHeuristic,
@@ -49,13 +50,13 @@ pub struct BaselineGuillotineHeuristic {
 }
 
 // GuillotineSplitDirection of a split, CutOrientation of a guide's cut.
-#[derive(Drop)]
+#[derive(Clone, Copy)]
 pub enum Direction {
     Horizontal,
     Vertical,
 }
 
-#[derive(Drop)]
+#[derive(Clone, Copy)]
 pub struct Rect {
     pub x: u32,
     pub y: u32,
@@ -63,7 +64,7 @@ pub struct Rect {
     pub length: u32,
 }
 
-#[derive(Drop)]
+#[derive(Clone, Copy)]
 pub struct StockInstance {
     pub stock_id: u64,
     pub instance: u32,
@@ -72,7 +73,7 @@ pub struct StockInstance {
     pub pattern: PatternDirection,
 }
 
-#[derive(Drop)]
+#[derive(Clone, Copy)]
 pub struct CutInstance {
     pub cut_id: u64,
     pub instance: u32,
@@ -83,13 +84,13 @@ pub struct CutInstance {
 }
 
 // CutInstanceKey and StockInstanceKey: the id and the number of an instance of its record.
-#[derive(Drop)]
+#[derive(Clone, Copy)]
 pub struct InstanceKey {
     pub id: u64,
     pub instance: u32,
 }
 
-#[derive(Drop)]
+#[derive(Clone, Copy)]
 pub struct FitResult {
     pub rect: Rect,
     pub pattern: PatternDirection,

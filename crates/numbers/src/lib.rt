@@ -1,4 +1,6 @@
 // Numbers in little-endian bytes, a u64 in two words, and an area.
+#![tactic(auto)]
+
 ghost use Rattle.std.specs.Prelude.{◌≡◌, ◌+◌, ◌*◌, ◌^◌, ◌≤◌, length};
 ghost use Rattle.model.specs.Project.{number};
 

@@ -1,4 +1,6 @@
 // The planner's entry: `optimize_with_config` from a project file to a plan or one numbered refusal, in lent memory.
+#![tactic(auto)]
+
 ghost use Rattle.std.specs.Prelude.{◌≡◌, ◌≤◌, length};
 ghost use Rattle.std.proofs.Math.Option.{none};
 ghost use Rattle.model.specs.Types.{effort_of};
@@ -20,7 +22,7 @@ use prefilter::Feasibility;
 use refusals::{Checked, Refusal};
 
 // A plan is in the plan memory; a refusal has document 01's number.
-#[derive(Drop)]
+#[derive(Clone, Copy)]
 pub enum Answer {
     Plan,
     Refused(u32),

@@ -1,4 +1,6 @@
 // Patterns of cuts and boards, and the ways to lie that they leave open: the tests of `fit_cut_in_rects` that read no rectangle.
+#![tactic(auto)]
+
 ghost use Rattle.std.specs.Prelude.{◌≡◌};
 ghost use Rattle.model.specs.Types.{pattern_code};
 ghost use Rattle.model.specs.Fit.{same_pattern, pattern_matches, rotate_pattern, turning_matters};
@@ -59,7 +61,7 @@ fn turning_matters(cut: CutInstance) -> bool
 }
 
 // The ways to lie that the patterns and the cut leave open on a board, whatever the free rectangle.
-#[derive(Drop)]
+#[derive(Clone, Copy)]
 pub struct Ways {
     pub upright: bool,
     pub rotated: bool,

@@ -1,6 +1,8 @@
 // Cuts placed on the sheets of a candidate (`place_cut_first_fit`, `reinsert_unused_first_fit`), and the sheets of a candidate
 // rebuilt from its insertions. A sheet's free rectangles are in its board's block of the lent words, so that nothing moves
 // when sheets come and go.
+#![tactic(auto)]
+
 ghost use Rattle.std.specs.Prelude.{◌≡◌, [], ◌+◌, ◌*◌, ◌≤◌, ◌<◌};
 ghost use lib.ListN.{length, take};
 ghost use Rattle.lists.proofs.Perm.{All};

@@ -1,4 +1,6 @@
 // The plan's words: the writer of a winner's plan, and the reader of one sheet's part.
+#![tactic(auto)]
+
 ghost use Rattle.std.specs.Prelude.{◌≡◌, [], ◌≤◌, length};
 ghost use Rattle.model.specs.Types.{layout_code};
 ghost use Rattle.model.specs.Fitness.{one};

@@ -1,4 +1,6 @@
 // The text of a plan's words, as the program `cutplan` prints it (document 01, "Plan"). Any words have a text: a word past the end reads as zero.
+#![tactic(auto)]
+
 ghost use Rattle.std.specs.Prelude.{◌≡◌, [], ◌∷◌, ◌++◌, ◌+◌, ◌*◌, ◌^◌, ◌≤◌, ◌<◌, length, get_or};
 ghost use Rattle.lists.specs.Base.{concat_map, range};
 ghost use Rattle.trust.specs.Words.{sheet_in};
@@ -112,7 +114,7 @@ fn node_line(body: &[u32], row: usize, out: &mut [u8], at: usize) -> usize
     word_line(b"leaf waste", body, row + 4, 4, out, at)
 }
 
-#[derive(Drop)]
+#[derive(Clone, Copy)]
 pub enum Part {
     Piece,
     Waste,

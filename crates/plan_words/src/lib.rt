@@ -1,4 +1,6 @@
 // The words of a plan: numbers in two words, a piece's nine, the free rectangles', and the ten before a sheet's pieces.
+#![tactic(auto)]
+
 ghost use Rattle.std.specs.Prelude.{◌≡◌, ◌+◌, ◌*◌, ◌/◌, ◌%◌, ◌^◌, ◌≤◌, length, get_or};
 ghost use Rattle.lists.specs.Base.{concat_map};
 ghost use Rattle.lists.specs.Parts.{patch};

@@ -1,4 +1,6 @@
 // What is tested before the search: `basic_feasibility_prefilter` of the optimizer, refusals 15 and 16.
+#![tactic(auto)]
+
 ghost use Rattle.std.specs.Prelude.{◌≡◌, map, ◌*◌, ◌≤◌, ◌<◌, ◌^◌, length};
 ghost use Rattle.lists.specs.Base.{all, sum, range};
 ghost use Rattle.model.specs.Answer.{prefilter};
@@ -58,7 +60,7 @@ fn total_area(table: &[u32], stride: usize, count: usize) -> u64
     total
 }
 
-#[derive(Drop)]
+#[derive(Clone, Copy)]
 pub enum Feasibility {
     Feasible,
     CutFitsNoStock,

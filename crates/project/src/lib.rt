@@ -1,4 +1,6 @@
 // The project file: its records and settings.
+#![tactic(auto)]
+
 ghost use Rattle.std.specs.Prelude.{◌≡◌, ◌+◌, ◌*◌, ◌/◌, ◌≤◌, length};
 ghost use Rattle.model.specs.Types.{layout_of, effort_of};
 ghost use Rattle.model.specs.Project.{piece_at, project_of, record_length, stock_length, cuts_start, cuts_length};
@@ -39,14 +41,14 @@ pub const QUANTITY_FIELD: usize = 16;
 
 // ---- records
 
-#[derive(Drop)]
+#[derive(Clone, Copy)]
 pub enum Kind {
     Stock,
     Cut,
 }
 
 // A stock or cut record as it stands in the file; `flag` is finite or can_rotate.
-#[derive(Drop)]
+#[derive(Clone, Copy)]
 pub struct RawPiece {
     pub id: u64,
     pub width: u32,

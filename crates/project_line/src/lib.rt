@@ -1,4 +1,6 @@
 // One line of a project that a person has typed: a setting, a board or a panel, from its words.
+#![tactic(auto)]
+
 ghost use Rattle.std.specs.Prelude.{◌≡◌, [], ◌∷◌, ◌+◌, ◌≤◌, min, length, drop};
 ghost use Rattle.project_line.specs.Words.{SpanOf, is_blank, stops_at, up_to, same_bytes, number_of, read_digits, code_in};
 ghost use Rattle.project_line.specs.Lines.{found_of, taken_at, taken_of, number, choice, quantity, grain, turn, flag_of, why_of, setting_of, ended, setting_line, record_line, keyword_of, line_of};
@@ -9,7 +11,7 @@ const MOST_ID: u64 = 0xFFFF_FFFF_FFFF_FFFF;
 
 // ---- what a line says
 
-#[derive(Drop)]
+#[derive(Clone, Copy)]
 pub enum Reason {
     Keyword,
     Number,
@@ -18,7 +20,7 @@ pub enum Reason {
     TooMany,
 }
 
-#[derive(Drop)]
+#[derive(Clone, Copy)]
 pub enum Setting {
     Kerf,
     Layout,
@@ -26,14 +28,14 @@ pub enum Setting {
     Unit,
 }
 
-#[derive(Drop)]
+#[derive(Clone, Copy)]
 pub enum Kind {
     Board,
     Panel,
 }
 
 // The fields of a record of the project file; `flag` is finite or can_rotate.
-#[derive(Drop)]
+#[derive(Clone, Copy)]
 pub struct Row {
     pub id: u64,
     pub width: u64,
@@ -43,7 +45,7 @@ pub struct Row {
     pub flag: u64,
 }
 
-#[derive(Drop)]
+#[derive(Clone, Copy)]
 pub enum Line {
     Blank,
     Set(Setting, u64),
@@ -66,7 +68,7 @@ fn is_blank(byte: u8) -> bool
 }
 
 // What a scan stops at: the end of a line, of a word, of the space before a word. `#` begins a comment.
-#[derive(Drop)]
+#[derive(Clone, Copy)]
 pub enum Stop {
     LineEnd,
     WordEnd,
@@ -99,7 +101,7 @@ pub fn scan(stop: Stop, text: &[u8], at: usize) -> usize
     i
 }
 
-#[derive(Drop)]
+#[derive(Clone, Copy)]
 pub struct Span {
     pub start: usize,
     pub end: usize,
@@ -125,7 +127,7 @@ fn next_word(line: &[u8], at: usize) -> Span
 
 // ---- what a word says
 
-#[derive(Drop)]
+#[derive(Clone, Copy)]
 pub enum Found {
     Number(u64),
     Nothing,
@@ -208,7 +210,7 @@ fn one_of_two(word: &[u8], first: u64, a: &[u8], b: &[u8]) -> Found
 // ---- fields
 
 // A number, and the place behind it.
-#[derive(Drop)]
+#[derive(Clone, Copy)]
 pub enum Taken {
     Got(u64, usize),
     Nothing,
@@ -381,7 +383,7 @@ fn record_line(kind: Kind, line: &[u8], at: usize) -> Line
     )
 }
 
-#[derive(Drop)]
+#[derive(Clone, Copy)]
 pub enum Keyword {
     Setting(Setting),
     Record(Kind),

@@ -1,4 +1,6 @@
 // The project file of a text that a person has typed, or the first of its lines that cannot be understood.
+#![tactic(auto)]
+
 ghost use Rattle.std.specs.Prelude.{◌≡◌, ◌≤◌, length};
 ghost use Rattle.append.specs.Appending.{Appended};
 ghost use Rattle.project_lines.specs.Draft.{Sound, Filled, rows_of, listed_of, Kept, verdict_of, Room, Parsing};
@@ -118,7 +120,7 @@ fn with_line(draft: Draft, line: Line) -> Draft
 
 // ---- what refuses a line
 
-#[derive(Drop)]
+#[derive(Clone, Copy)]
 pub enum Verdict {
     Fine,
     Bad(Reason),
@@ -222,7 +224,7 @@ fn put_file(draft: Draft, out: &mut [u8]) -> usize
 
 // ---- the text
 
-#[derive(Drop)]
+#[derive(Clone, Copy)]
 pub enum Parsed {
     File(usize),
     BadLine(usize, Reason),

@@ -1,5 +1,7 @@
 // Reads a project that a person has typed from standard input, and writes its project file to standard output. A line that cannot be
 // understood is named on standard error, and then nothing is written to standard output.
+#![tactic(auto)]
+
 use libc::{STDERR_FILENO, STDIN_FILENO, STDOUT_FILENO};
 use project_line::Reason;
 use project_lines::Parsed;

@@ -1,4 +1,6 @@
 // A sheet's free rectangles in lent words, read and written (`GuillotineSheet::new`).
+#![tactic(auto)]
+
 ghost use Rattle.std.specs.Prelude.{◌≡◌, ◌∷◌, [], ◌≤◌, ◌<◌};
 ghost use lib.ListN.{length};
 ghost use Rattle.model.specs.Types.{rect};

@@ -1,4 +1,6 @@
 // The checks that refuse a project file: 2 to 14 of document 01, in its order.
+#![tactic(auto)]
+
 ghost use Rattle.std.specs.Prelude.{◌≡◌, true, ◌&&◌, ◌||◌, not, [], ◌∷◌, ◌+◌, ◌*◌, ◌^◌, ◌≤◌, eqb, length};
 ghost use Rattle.lists.specs.Base.{any, ◌<|>◌};
 ghost use Rattle.model.specs.Project.{project_of, well_formed, body_length, record_length, start_of, length_of, settings_entry, stock_entry, settings_start, settings_length, stock_start};
@@ -16,7 +18,7 @@ const MOST_INSTANCES: u64 = 64;
 // ---- answers
 
 // Why a file is refused, in the order of document 01's numbers, 2 to 14 (`refusal_number`).
-#[derive(Drop)]
+#[derive(Clone, Copy)]
 pub enum Refusal {
     NotWellFormed,
     BadSettings,
@@ -33,7 +35,7 @@ pub enum Refusal {
     NestedLayout,
 }
 
-#[derive(Drop)]
+#[derive(Clone, Copy)]
 pub enum Checked {
     Passed,
     Refused(Refusal),

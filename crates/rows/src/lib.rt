@@ -1,4 +1,6 @@
 // The instance tables as words, and their readers.
+#![tactic(auto)]
+
 ghost use Rattle.std.specs.Prelude.{◌≡◌, ◌+◌, ◌*◌, ◌≤◌, length};
 ghost use Rattle.model.specs.Types.{pattern_of};
 ghost use Rattle.rows.specs.Rows.{stock_words, cut_words, row_at, head_of, stock_at, cut_at};
@@ -23,7 +25,7 @@ fn pattern_of(code: u32) -> PatternDirection
 }
 
 // What a row of either table starts with.
-#[derive(Drop)]
+#[derive(Clone, Copy)]
 pub struct Head {
     pub id: u64,
     pub instance: u32,

@@ -1,4 +1,6 @@
 // A sheet's saw and use: how far its guide has the saw go, whose nodes are in eight words each as in `guide`, and how much of its board is placed.
+#![tactic(auto)]
+
 ghost use Rattle.std.specs.Prelude.{◌≡◌, ◌+◌, ◌*◌, ◌/◌, ◌≤◌, ◌<◌, length};
 ghost use Rattle.saw.specs.Saws.{saw_at, Sawn, Sawable};
 

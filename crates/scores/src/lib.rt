@@ -1,4 +1,6 @@
 // The order of two fitnesses and of two scores: the better one is the greater.
+#![tactic(auto)]
+
 ghost use Rattle.std.specs.Prelude.{◌≡◌};
 ghost use Rattle.lists.specs.Base.{is_less, is_greater};
 ghost use Rattle.model.specs.Fitness.{compare_float};
@@ -6,7 +8,7 @@ ghost use Rattle.model.specs.Candidate.{compare_score};
 ghost use Rattle.scores.specs.Scores.{ordering_of, score_of};
 
 // std::cmp::Ordering
-#[derive(Drop)]
+#[derive(Clone, Copy)]
 pub enum Ordering {
     Less,
     Equal,
@@ -34,7 +36,7 @@ fn is_less(o: Ordering) -> bool
 }
 
 // The fitness counts only where a sheet is used: a candidate of no sheets has none.
-#[derive(Drop)]
+#[derive(Clone, Copy)]
 pub struct CandidateScore {
     pub used_stock_count: usize,
     pub waste_area: u64,

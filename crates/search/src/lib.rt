@@ -1,6 +1,8 @@
 // The search: `initial_population`, `repair_population`, `compact_population`, `crossover_population`, `run_population_generations`, and
 // `optimize_population_pipeline` past its prefilter.
 // A population is in one of two regions of 48 slots, and a generation's survivors are in the other.
+#![tactic(auto)]
+
 ghost use Rattle.std.specs.Prelude.{◌≡◌, true, [], map, ◌+◌, ◌-◌, ◌*◌, ◌≤◌, ◌<◌, length};
 ghost use Rattle.lists.specs.Base.{range};
 ghost use Rattle.lists.proofs.Perm.{Perm};

@@ -1,5 +1,7 @@
 // The numbers of an effort, the rows of heuristics, and the seeds of the first population: `PopulationPipelineConfig`, `heuristic_variants`,
 // `initial_candidate_seeds`.
+#![tactic(auto)]
+
 ghost use Rattle.std.specs.Prelude.{◌≡◌, ◌+◌, ◌<◌, ◌≤◌, List, [], ◌++◌, length, take, drop, slice_index_or};
 ghost use Rattle.model.specs.declared.CutInstance.{CutInstance};
 ghost use Rattle.model.specs.Expand.{ProblemInstance};
@@ -14,7 +16,7 @@ use model::{
 };
 
 // What is left of PopulationPipelineConfig: max_candidates cuts nothing off.
-#[derive(Drop)]
+#[derive(Clone, Copy)]
 pub struct SearchNumbers {
     pub variants: bool,
     pub shuffles: usize,

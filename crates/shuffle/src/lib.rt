@@ -1,4 +1,6 @@
 // The shuffle of a cut order.
+#![tactic(auto)]
+
 ghost use Rattle.std.specs.Prelude.{◌≡◌};
 ghost use Rattle.shuffle.specs.Shuffle.{shuffled};
 

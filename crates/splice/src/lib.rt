@@ -1,4 +1,6 @@
 // Nodes written into the words of a guide, and a subtree's nodes in the place of one.
+#![tactic(auto)]
+
 ghost use Rattle.std.specs.Prelude.{◌≡◌, ◌++◌, ◌+◌, ◌-◌, ◌*◌, ◌≤◌, ◌<◌, length, drop};
 ghost use Rattle.lists.specs.Parts.{part, patch};
 ghost use Rattle.subtree.specs.Words.{words_of, before_words, after_words, subtree_words};

@@ -1,4 +1,6 @@
 // What a split leaves of a free rectangle (`split_horizontal`, `split_vertical`): the remainder below the piece and the one to its right.
+#![tactic(auto)]
+
 ghost use Rattle.std.specs.Prelude.{◌≡◌, ◌+◌, ◌≤◌};
 ghost use Rattle.model.specs.Refusal.{most_side};
 ghost use Rattle.model.specs.Split.{bottom_remainder, right_remainder, bottom_width, right_length};
@@ -27,7 +29,7 @@ fn right_length(direction: Direction, free_rect: Rect, placed: Rect) -> u32
 }
 
 // What is left of a side, where it begins and how long it is.
-#[derive(Drop)]
+#[derive(Clone, Copy)]
 enum Rest {
     Nothing,
     From(u32, u32),
@@ -47,7 +49,7 @@ fn rest_of_side(start: u32, side: u32, placed: u32, kerf_width: u32) -> Rest
 }
 
 // A remainder of a split, if it is larger than the kerf.
-#[derive(Drop)]
+#[derive(Clone, Copy)]
 pub enum Remainder {
     Nothing,
     One(Rect),

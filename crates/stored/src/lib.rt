@@ -1,5 +1,7 @@
 // A candidate at rest in 130 words of the workspace: its sheets and its placed cuts counted, its 64 boards, then its insertions and
 // behind them its unused cuts, which are 64 together at most.
+#![tactic(auto)]
+
 ghost use Rattle.std.specs.Prelude.{◌≡◌, ◌+◌, ◌*◌, ◌≤◌, length, get_or};
 ghost use Rattle.lists.specs.Parts.{part, patch};
 ghost use Rattle.stored.specs.Slots.{slot_words, slot_of, filled, unpacked, stored_in, store_in, Storable};

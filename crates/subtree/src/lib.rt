@@ -1,4 +1,6 @@
 // The subtree that an insertion puts in the place of a free leaf, by its nodes: eight words each, as the plan has them.
+#![tactic(auto)]
+
 ghost use Rattle.std.specs.Prelude.{◌≡◌};
 ghost use Rattle.model.specs.declared.Direction.{Direction};
 ghost use Rattle.model.specs.Types.{direction_code, cut_key};
@@ -13,7 +15,7 @@ use model::{CutInstance, Direction, Rect};
 use split::Remainder;
 
 // A node's eight words: its kind (0 cut, 1 piece, 2 waste), three more, its rectangle.
-#[derive(Drop)]
+#[derive(Clone, Copy)]
 pub struct Node {
     pub kind: u32,
     pub first: u32,
@@ -23,14 +25,14 @@ pub struct Node {
 }
 
 // The cut that takes a remainder off, and the remainder's leaf.
-#[derive(Drop)]
+#[derive(Clone, Copy)]
 pub enum CutOff {
     Nothing,
     Around(Node, Node),
 }
 
 // An insertion's subtree: its nodes in preorder are outer cut, inner cut, piece, inner remainder, outer remainder.
-#[derive(Drop)]
+#[derive(Clone, Copy)]
 pub struct Subtree {
     pub outer: CutOff,
     pub inner: CutOff,

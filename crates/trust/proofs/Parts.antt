@@ -39,10 +39,10 @@ pub data WellCut (kerf : ℕ) : Rect → SliceNode → Type 0 where
 
 -- ---- replacing a free leaf by what is well cut in its place
 
-graft_well : {kerf : ℕ} {target part : Rect} {sub tree t : SliceNode} → Grafted target sub tree t → WellCut kerf part tree → WellCut kerf target sub → WellCut kerf part t
+graft_well : {kerf : ℕ} {target : Rect} {sub : SliceNode} {part : Rect} {tree t : SliceNode} → Grafted target sub tree t → WellCut kerf part tree → WellCut kerf target sub → WellCut kerf part t
 graft_well at_leaf (free_in part) w = w
-graft_well (in_first g) (cut_in h p q) w = cut_in h (graft_well g p w) q
-graft_well (in_second g) (cut_in h p q) w = cut_in h p (graft_well g q w)
+graft_well (in_first g) (cut_in {part = part} {work = work} {o = o} {offset = offset} h p q) w = cut_in h (graft_well {part = first_part o offset work} g p w) q
+graft_well {kerf = kerf} (in_second g) (cut_in {part = part} {work = work} {o = o} {offset = offset} h p q) w = cut_in h p (graft_well {part = second_part o offset kerf work} g q w)
 
 -- ---- the subtree of an insertion is well cut in the free rectangle
 

@@ -73,7 +73,7 @@ module _ {A : Type 0} (P : A → Type 0) (better : A → A → Bool) where
   keep_best_all : (best : A) (xs : List A) → P best → All P xs → P (keep_best better best xs)
   unfolding keep_best
   keep_best_all best [] h k = h
-  keep_best_all best (x ∷ xs) h k = keep_best_all _ xs (pick_all (better x best) x best k.0 h) k.1
+  keep_best_all best (x ∷ xs) h k = keep_best_all (if better x best then x else best) xs (pick_all (better x best) x best k.0 h) k.1
 
   pub first_best_all : (xs : List A) (x : A) → All P xs → first_best better xs ≡ some x → P x
   unfolding first_best
@@ -89,7 +89,7 @@ module _ {A : Type 0} (d : A) where
   enumerate_from_at n pre [] e = tt
   enumerate_from_at n pre (x ∷ xs) e = (
     (simp (length-append) (omega arith), rw e (get_or-append_seam pre x xs d)),
-    rw (← append_assoc pre (x ∷ []) xs) (enumerate_from_at (suc n) (pre ++ (x ∷ [])) xs (simp length-append (omega arith))),
+    subst (λ (l : List A). All (At l) (enumerate_from (suc n) xs)) (append_assoc pre (x ∷ []) xs) (enumerate_from_at (suc n) (pre ++ (x ∷ [])) xs (simp length-append (omega arith))),
   )
 
   pub enumerate_at : (xs : List A) → All (At xs) (enumerate xs)

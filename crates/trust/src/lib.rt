@@ -1,1 +1,2 @@
 // What a plan can be trusted for, proved of the definition. No code.
+#![tactic(auto)]

@@ -1,5 +1,7 @@
 // What the search makes of candidates: one with its least fit sheet taken apart (`compact_worst_bin_for_repair`), and the child of two, of which the
 // second gives its fittest sheet and the first its boards (`crossover_child_from_donor_bin`).
+#![tactic(auto)]
+
 ghost use Rattle.std.specs.Prelude.{◌≡◌, [], ◌∷◌, map, ◌*◌, ◌≤◌, ◌<◌, ◌+◌, length};
 ghost use Rattle.lists.specs.Base.{is_some};
 ghost use Rattle.model.specs.Sheet.{rebuild};

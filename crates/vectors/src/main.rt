@@ -1,5 +1,7 @@
 // Replays a corpus from standard input: pairs of a project file and the text that the published Rust printed for it, each behind its length in four
 // bytes, the lowest first. Says how many of the planner's texts are equal, and the first pair that differs.
+#![tactic(auto)]
+
 ghost use Rattle.std.specs.Prelude.{◌≡◌, ◌≤◌, ◌<◌, length};
 
 use libc::{STDIN_FILENO, STDOUT_FILENO};

@@ -1,0 +1,11 @@
+-- `append::hex_digit` meets its contract.
+use mathlib.Core.Path.{sym}
+use Rattle.append.proofs.Laws.{hex_digit_low, hex_digit_high}
+use borrow.Author.Rules.{rules}
+use Rattle.append.proofs.hex_digit.Goals as goal
+
+pub returns-then-digit-lt10 : goal.returns-then-digit-lt10
+returns-then-digit-lt10 c = sym (hex_digit_low _ c.if-digit-lt10.true)
+
+pub returns : goal.returns
+returns c = sym (hex_digit_high _ c.if-digit-lt10.false)

@@ -1,0 +1,8 @@
+-- `generator::next_state` meets its contract.
+use Rattle.std.proofs.Common.{rules}
+use Rattle.model.specs.TinyPrng.{next_state}
+use Rattle.generator.proofs.next_state.Goals as goal
+
+pub returns : goal.returns
+unfolding next_state
+returns c = c.wrapping_add_u64.ensures.value

@@ -1,0 +1,8 @@
+-- `numbers::number_2` meets its contract.
+use native.Mathlib.Omega.{arith}
+use Rattle.numbers.proofs.Numbers.{number_2}
+use borrow.Author.Rules.{rules}
+use Rattle.numbers.proofs.number_2.Goals as goal
+
+pub returns : goal.returns
+returns c = omega (arith, c.four_bytes.ensures, number_2 c.args.file.now c.args.at c.requires)

@@ -1,0 +1,16 @@
+-- `rect_words::load` meets its contract: the first rectangles of the array are those of the words. The measure is what is left of the count.
+use mathlib.Core.Path.{◌≡◌, refl, sym, ap, ◌∙◌}
+use Prim.Native.Nat.{ℕ, ◌-◌, ◌≤◌, ◌<◌}
+use native.Mathlib.Omega.{arith}
+use lib.Seq.{take_all}
+use lib.ListN.{length, get_or, take, length-set}
+use Rattle.rect_words.specs.SheetWords.{rects_in}
+use Rattle.rect_words.proofs.Words.{length_rects, load_step}
+use borrow.Author.Rules.{rules}
+use Rattle.rect_words.proofs.load.Given as goal
+
+abbrev pub invariant-loop-index : goal.invariant-loop-index
+invariant-loop-index l = (l.index ≤ l.count) × (length l.free.rects ≡ 65) × (l.free.count ≡ l.count) × (take l.index l.free.rects ≡ take l.index (rects_in l.sheet))
+
+abbrev pub decreases-loop-index : goal.decreases-loop-index
+decreases-loop-index l = l.count - l.index
