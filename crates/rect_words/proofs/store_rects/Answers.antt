@@ -22,7 +22,7 @@ loop-index-preserved c =
     let here : c.loop-index.index < length c.args.free.rects = omega (arith, c.requires) in
     let under : c.loop-index.index ≤ length c.args.free.rects = omega arith in (
       omega arith,
-      c.put_rect.auto.0 ∙ c.loop-index.invariant.1,
+      c.put_rect.auto.sheet ∙ c.loop-index.invariant.1,
       c.put_rect.ensures
           ∙ ap (λ (v : List ℕ). put_rect v c.loop-index.index (get_or c.args.free.rects c.loop-index.index no_rect)) c.loop-index.invariant.2
           ∙ put_snoc c.args.sheet.now (take c.loop-index.index c.args.free.rects) (get_or c.args.free.rects c.loop-index.index no_rect) c.loop-index.index (length-take-le c.loop-index.index c.args.free.rects under) (omega (arith, c.requires))

@@ -1,0 +1,28 @@
+-- `guillotine::merges_any` meets its contract: the three tests together say what `merge_free_rects` would say.
+use mathlib.Core.Path.{sym, ◌∙◌}
+use Prim.Native.Nat.{◌<◌}
+use native.Mathlib.Omega.{arith}
+use lib.ListN.{length}
+use Rattle.rect_words.specs.SheetWords.{rects_in}
+use Rattle.guillotine.proofs.Touching.{touches_merges}
+use Rattle.rect_words.proofs.Words.{length_rects}
+use borrow.Author.Rules.{rules}
+use Rattle.guillotine.proofs.merges_any.Goals as goal
+
+pub returns-then-touches_others : goal.returns-then-touches_others
+returns-then-touches_others c =
+    let within : c.args.index < length (rects_in c.args.sheet.now) = omega (arith, c.requires.1, length_rects c.args.sheet.now) in
+    let all = touches_merges c.args.kerf_width (rects_in c.args.sheet.now) c.args.index c.args.bottom c.args.right within c.requires.0.ready.apart in
+    rw (sym c.touches_others.ensures ∙ c.if-touches_others.true) at all
+
+pub returns-then-touches_others-2 : goal.returns-then-touches_others-2
+returns-then-touches_others-2 c =
+    let within : c.args.index < length (rects_in c.args.sheet.now) = omega (arith, c.requires.1, length_rects c.args.sheet.now) in
+    let all = touches_merges c.args.kerf_width (rects_in c.args.sheet.now) c.args.index c.args.bottom c.args.right within c.requires.0.ready.apart in
+    rw (sym c.touches_others.ensures ∙ c.if-touches_others.false, sym c.touches_others-2.ensures ∙ c.if-touches_others-2.true) at all
+
+pub returns : goal.returns
+returns c =
+    let within : c.args.index < length (rects_in c.args.sheet.now) = omega (arith, c.requires.1, length_rects c.args.sheet.now) in
+    let all = touches_merges c.args.kerf_width (rects_in c.args.sheet.now) c.args.index c.args.bottom c.args.right within c.requires.0.ready.apart in
+    c.remainders_merge.ensures ∙ rw (sym c.touches_others.ensures ∙ c.if-touches_others.false, sym c.touches_others-2.ensures ∙ c.if-touches_others-2.false) at all

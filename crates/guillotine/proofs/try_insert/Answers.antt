@@ -1,0 +1,19 @@
+-- `guillotine::try_insert` meets its contract: no place, or the insertion at the best place.
+use Rattle.guillotine.proofs.Sheets.{stays, found_at, found_inside, inserts}
+use borrow.Author.Rules.{rules}
+use Rattle.guillotine.proofs.try_insert.Goals as goal
+
+pub returns-in_default : goal.returns-in_default
+returns-in_default c =
+    let f = rw c.in_default.is at c.best_fit.ensures in
+    stays c.args.kerf_width c.args.stock_pattern c.args.cut c.args.heuristic c.args.sheet.now f
+
+pub insert_at-merged-requires : goal.insert_at-merged-requires
+insert_at-merged-requires c =
+    let f = rw c.in-At.is at c.best_fit.ensures in
+    (c.requires, found_at c.args.kerf_width c.args.stock_pattern c.args.cut c.args.heuristic c.args.sheet.now c.in-At.index c.in-At.free_rect c.in-At.fit c.in-At.score f, found_inside c.args.kerf_width c.args.stock_pattern c.args.cut c.args.heuristic c.args.sheet.now c.in-At.index c.in-At.free_rect c.in-At.fit c.in-At.score f)
+
+pub returns : goal.returns
+returns c =
+    let f = rw c.in-At.is at c.best_fit.ensures in
+    inserts c.args.kerf_width c.args.stock_pattern c.args.cut c.args.heuristic c.args.sheet.now c.in-At.index c.in-At.free_rect c.in-At.fit c.in-At.score f c.insert_at-merged.new.sheet c.insert_at-merged.result (rw c.split_direction-direction.ensures at c.insert_at-merged.ensures)

@@ -1,0 +1,24 @@
+-- `prefilter::total_area` meets its contract: the areas so far and those of the rows left are all of them.
+use Prim.Native.Nat.{ℕ, ◌+◌, ◌-◌, ◌*◌, ◌≤◌, ◌<◌, ◌^◌}
+use mathlib.Core.Path.{◌≡◌, ap}
+use native.Mathlib.Omega.{arith}
+use lib.ListN.{length}
+use mathlib.Core.List.{List, map}
+use Rattle.lists.specs.Base.{sum, range}
+use Rattle.prefilter.specs.Rows.{row_area}
+use Rattle.prefilter.proofs.Left.{left, left_all, sum_next, sum_none, row_inside}
+use borrow.Author.Rules.{rules}
+use Rattle.prefilter.proofs.total_area.Goals as goal
+
+pub overflow_add-total : goal.overflow_add-total
+unfolding row_area
+overflow_add-total c =
+    let under : c.loop-i.total + c.area-total.result < 2 ^ 64 = omega (arith, c.area-total.ensures, sum_next (row_area c.args.stride c.args.table.now) c.loop-i.i c.args.count c.loop-i-test.true, c.loop-i.invariant.1, c.requires.3) in
+    search rules
+
+pub loop-i-preserved : goal.loop-i-preserved
+unfolding row_area
+loop-i-preserved c = (search rules, (omega (arith, c.area-total.ensures, sum_next (row_area c.args.stride c.args.table.now) c.loop-i.i c.args.count c.loop-i-test.true, c.loop-i.invariant.1)))
+
+pub returns : goal.returns
+returns c = omega (arith, sum_none (row_area c.args.stride c.args.table.now) c.loop-i.i c.args.count c.loop-i-test.false, c.loop-i.invariant.1)

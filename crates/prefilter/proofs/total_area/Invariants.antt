@@ -1,0 +1,17 @@
+-- `prefilter::total_area` meets its contract: the areas so far and those of the rows left are all of them.
+use Prim.Native.Nat.{ℕ, ◌+◌, ◌-◌, ◌*◌, ◌≤◌, ◌<◌, ◌^◌}
+use mathlib.Core.Path.{◌≡◌, ap}
+use native.Mathlib.Omega.{arith}
+use lib.ListN.{length}
+use mathlib.Core.List.{List, map}
+use Rattle.lists.specs.Base.{sum, range}
+use Rattle.prefilter.specs.Rows.{row_area}
+use Rattle.prefilter.proofs.Left.{left, left_all, sum_next, sum_none, row_inside}
+use borrow.Author.Rules.{rules}
+use Rattle.prefilter.proofs.total_area.Given as goal
+
+abbrev pub invariant-loop-i : goal.invariant-loop-i
+invariant-loop-i l = (l.i ≤ l.count) × (l.total + sum (map (row_area l.stride l.table) (left l.i l.count)) ≡ sum (map (row_area l.stride l.table) (range l.count)))
+
+abbrev pub decreases-loop-i : goal.decreases-loop-i
+decreases-loop-i l = l.count - l.i
