@@ -2,46 +2,45 @@
 // the seeds 0 and 1.
 #![tactic(auto)]
 
-use libc::STDOUT_FILENO;
+use std::io;
 
-fn end() {
-    io::write_all(STDOUT_FILENO, b"\n");
+fn end(rt: &impl Print) -> io::Result<()> {
+    println!(rt)
 }
 
-fn word(n: u64) {
-    io::print_decimal(STDOUT_FILENO, n);
-    io::write_all(STDOUT_FILENO, b" ");
+fn word(rt: &impl Print, n: u64) -> io::Result<()> {
+    print!(rt; "{n} ")
 }
 
-fn line(n: u64) {
-    io::print_decimal(STDOUT_FILENO, n);
-    end();
+fn line(rt: &impl Print, n: u64) -> io::Result<()> {
+    println!(rt; "{n}")
 }
 
 fn wide(x: u32) -> u64 {
-    x as u64
+    u64::from(x)
 }
 
-fn outputs(seed: u64, count: usize) {
+fn outputs(rt: &impl Print, seed: u64, count: usize) -> io::Result<()> {
     let mut state = seed;
-    for k in 0..count {
+    for _ in 0..count {
         state = generator::next_state(state);
-        line(generator::value_of(state));
+        line(rt, generator::value_of(state))?;
     }
+    Ok(())
 }
 
-fn order(seed: u64) {
+fn order(rt: &impl Print, seed: u64) -> io::Result<()> {
     let mut a = [0u32, 1, 2, 3, 4, 5, 6, 7, 8, 9];
     shuffle::shuffle_cut_order(&mut a, seed);
-    for k in 0..10 {
-        word(wide(a[k]));
+    for n in a {
+        word(rt, wide(n))?;
     }
-    end();
+    end(rt)
 }
 
-fn main() {
-    outputs(1234567, 5);
-    outputs(0, 3);
-    order(0);
-    order(1);
+fn main(rt: HostRuntime) -> io::Result<()> {
+    outputs(&rt, 1234567, 5)?;
+    outputs(&rt, 0, 3)?;
+    order(&rt, 0)?;
+    order(&rt, 1)
 }

@@ -136,7 +136,7 @@ pub enum Found {
 fn same(a: &[u8], b: &[u8]) -> bool
     ensures { result ≡ same_bytes a.now b.now }
 {
-    check::same(a, b)
+    a == b
 }
 
 // The number with one more digit behind it, unless it is no digit or the number becomes too large.

@@ -2,9 +2,11 @@
 // bytes, the lowest first. Says how many of the planner's texts are equal, and the first pair that differs.
 #![tactic(auto)]
 
-ghost use Rattle.std.specs.Prelude.{◌≡◌, ◌≤◌, ◌<◌, length};
+ghost use Rattle.std.specs.Prelude.{◌≡◌, ◌≤◌, ◌<◌, take, length, IfOk};
+ghost use Rattle.std.specs.Io.KnownBytes.{Consumes, IsAtEnd};
 
-use libc::{STDIN_FILENO, STDOUT_FILENO};
+use std::io;
+use std::io::Read;
 
 // Where the part that starts at a place ends: past its length and its bytes, or with the corpus.
 fn part_end(corpus: &[u8], at: usize) -> usize
@@ -33,40 +35,36 @@ fn part(corpus: &[u8], at: usize, end: usize) -> &[u8]
 }
 
 fn is_equal(file: &[u8], text: &[u8]) -> bool {
-    let mut printed = io::large_buffer();
+    let mut printed = [0u8; 65_536];
     let end = answer_text::put_answer(file, &mut printed);
-    check::same(&printed[..end], text)
+    &printed[..end] == text
 }
 
-fn tell(pairs: u64, equal: u64, first: u64) {
-    io::print_decimal(STDOUT_FILENO, equal);
-    io::write_all(STDOUT_FILENO, b" of ");
-    io::print_decimal(STDOUT_FILENO, pairs);
-    io::write_all(STDOUT_FILENO, b" equal\n");
-    if equal < pairs {
-        io::write_all(STDOUT_FILENO, b"the first that differs is pair ");
-        io::print_decimal(STDOUT_FILENO, first);
-        io::write_all(STDOUT_FILENO, b"\n");
+fn tell(rt: &impl Print, pairs: u64, equal: u64, first: Option<u64>) -> io::Result<()> {
+    println!(rt; "{equal} of {pairs} equal")?;
+    if let Some(pair) = first {
+        println!(rt; "the first that differs is pair {pair}")?;
     }
+    Ok(())
 }
 
-fn replay(corpus: &[u8]) {
+fn replay(rt: &impl Print, corpus: &[u8]) -> io::Result<()> {
     let mut at = 0;
     let mut pairs: u64 = 0;
     let mut equal: u64 = 0;
-    let mut first: u64 = 0;
+    let mut first = None;
     while at < corpus.len() {
         let middle = part_end(corpus, at);
         let end = part_end(corpus, middle);
         pairs += 1;
         if is_equal(part(corpus, at, middle), part(corpus, middle, end)) {
             equal += 1;
-        } else if first == 0 {
-            first = pairs;
+        } else if first.is_none() {
+            first = Some(pairs);
         }
         at = end;
     }
-    tell(pairs, equal, first);
+    tell(rt, pairs, equal, first)
 }
 
 // Room for a corpus.
@@ -76,8 +74,25 @@ fn room() -> [u8; 1_048_576]
     [0; 1_048_576]
 }
 
-fn main() {
+// Reads until the buffer is full or the input ends, and says how many bytes it put at the buffer's start.
+fn read_full<R: Read>(input: &mut R, buffer: &mut [u8]) -> io::Result<usize>
+    ensures within { IfOk result (λ size. size ≤ length buffer.new) }
+    ensures bytes { IfOk result (λ size. Consumes (R.remaining input.old) (R.remaining input.new) (take size buffer.new)) }
+    ensures end { IfOk result (λ size. size < length buffer.new → IsAtEnd (R.remaining input.new)) }
+{
+    let mut size = 0;
+    while size < buffer.len() {
+        let count = input.read(&mut buffer[size..])?;
+        if count == 0 {
+            return Ok(size);
+        }
+        size += count;
+    }
+    Ok(size)
+}
+
+fn main(rt: HostRuntime) -> io::Result<()> {
     let mut corpus = room();
-    let size = io::read_full(STDIN_FILENO, &mut corpus);
-    replay(&corpus[..size]);
+    let size = read_full(&mut rt.stdin(), &mut corpus)?;
+    replay(&rt, &corpus[..size])
 }
