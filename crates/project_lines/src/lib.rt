@@ -10,7 +10,7 @@ use project_line::{Kind, Line, Reason, Row, Setting, Stop};
 
 // ---- rows
 
-#[derive(Drop)]
+#[derive(Clone, Copy)]
 pub struct Rows {
     pub all: [Row; 64],
     pub count: usize,
@@ -47,7 +47,7 @@ fn push(rows: Rows, row: Row) -> Rows
 
 // ---- the project as far as it was read
 
-#[derive(Drop)]
+#[derive(Clone, Copy)]
 pub struct Draft {
     pub kerf: u64,
     pub layout: u64,

@@ -26,7 +26,7 @@ pub struct SearchNumbers {
 }
 
 // Up to eight heuristics; the first, if there is one, is the default one.
-#[derive(Drop)]
+#[derive(Clone, Copy)]
 pub struct HeuristicRows {
     pub rows: [BaselineGuillotineHeuristic; 8],
     pub count: usize,
