@@ -1,0 +1,12 @@
+-- `placing::open_boards` meets its contract.
+use Prim.Native.Nat.{◌-◌, ◌*◌, ◌≤◌}
+use lib.ListN.{length, get_or}
+use Rattle.placing.specs.Rebuilding.{Listed}
+use Rattle.placing.proofs.Opening.{Opening, opening_none, opening_done, board_listed, free_room, opening_next}
+use borrow.Author.Rules.{rules}
+use Rattle.placing.proofs.open_boards.Goals as goal
+
+pub loop-k-preserved : goal.loop-k-preserved
+loop-k-preserved c =
+    opening_next c.args.stock.now c.args.boards.now c.args.free.now c.requires.0 c.requires.1 c.loop-k.free c.loop-k.k c.loop-k.invariant c.loop-k-test.true
+    c.stock_at-s.result c.stock_at-s.ensures c.open_board.new.free c.open_board.auto.free c.open_board.ensures

@@ -1,0 +1,58 @@
+-- An insertion on another board passes by; one on the board finds its place, since the whole making does.
+use Prim.Native.Nat.{ℕ, ◌<◌}
+use native.Mathlib.Omega.{arith}
+use mathlib.Core.Path.{◌≡◌, refl, sym, ap, ◌∙◌}
+use lib.ListN.{get_or}
+use Rattle.model.specs.declared.StockInstance.{StockInstance}
+use Rattle.model.specs.Expand.{ProblemInstance}
+use Rattle.rows.specs.Rows.{cut_at}
+use Rattle.candidate.specs.Entries.{board_of, cut_of}
+use Rattle.candidate.specs.Stands.{instance_in, board_in, cut_in}
+use Rattle.candidate.proofs.Instances.{cut_count, cut_in_lem}
+use Rattle.sheet_plan.proofs.Making.{cut_known, row_within, row_is}
+use Rattle.sheet_plan.proofs.Turns.{passed, ready, room_for, done}
+use borrow.Author.Rules.{rules}
+use Rattle.sheet_plan.proofs.replay_word.Goals as goal
+
+pub returns-then-board_of-board : goal.returns-then-board_of-board
+returns-then-board_of-board c = passed ((instance_in c.args.stock.now c.args.cuts.now c.args.n)) c.requires.0.ranged c.args.insertions.now c.args.board c.requires.1 c.args.i c.requires.2 c.args.rects.now c.args.guide.now c.args.p c.requires.3 (λ e. c.if-board_of-board.true (c.board_of.ensures ∙ e)) c.args.at c.args.plan.now
+
+pub stock_at-s-requires : goal.stock_at-s-requires
+stock_at-s-requires c = row_within c.args.stock.now c.args.cuts.now c.args.n c.args.insertions.now c.args.board c.requires.1 _ refl c.requires.0
+
+pub cut_at-cut-requires : goal.cut_at-cut-requires
+cut_at-cut-requires c =
+    omega (
+      arith,
+      c.cut_of.ensures,
+      c.requires.0.cut_room,
+      cut_known (instance_in c.args.stock.now c.args.cuts.now c.args.n) c.args.insertions.now c.args.board c.requires.1 c.args.i c.requires.2,
+      cut_count c.args.stock.now c.args.cuts.now c.args.n,
+    )
+
+pub try_insert-inserted-requires : goal.try_insert-inserted-requires
+unfolding instance_in
+try_insert-inserted-requires c = ready ((instance_in c.args.stock.now c.args.cuts.now c.args.n)) c.requires.0.ranged c.args.insertions.now c.args.board c.requires.1 c.args.i c.requires.2 c.args.rects.now c.args.guide.now c.args.p c.requires.3 ((sym c.board_of.ensures ∙ c.if-board_of-board.false))
+
+pub take_inserted-requires : goal.take_inserted-requires
+unfolding instance_in
+take_inserted-requires c =
+    room_for ((instance_in c.args.stock.now c.args.cuts.now c.args.n)) c.requires.0.ranged c.args.insertions.now c.args.board c.requires.1 c.args.i c.requires.2 c.args.rects.now c.args.guide.now c.args.p c.requires.3 ((sym c.board_of.ensures ∙ c.if-board_of-board.false)) _ _ _
+    ((ap (λ (b : StockInstance). b.pattern) (row_is c.args.stock.now c.args.cuts.now c.args.n c.args.insertions.now c.args.board c.requires.1 _ refl c.stock_at-s.result c.stock_at-s.ensures))) ((let number : c.cut_of.result ≡ cut_of ((get_or c.args.insertions.now c.args.i 0)) = c.cut_of.ensures in
+    c.cut_at-cut.ensures ∙ ap (cut_at c.args.cuts.now) number ∙ sym (cut_in_lem c.args.stock.now c.args.cuts.now c.args.n (cut_of ((get_or c.args.insertions.now c.args.i 0))) ((omega (
+      arith,
+      cut_known ((instance_in c.args.stock.now c.args.cuts.now c.args.n)) c.args.insertions.now c.args.board c.requires.1 c.args.i c.requires.2,
+      cut_count c.args.stock.now c.args.cuts.now c.args.n,
+    )))))) c.row_of-h.ensures c.try_insert-inserted.new.sheet c.try_insert-inserted.result c.try_insert-inserted.ensures c.args.at c.args.plan.now c.requires.4
+
+pub returns : goal.returns
+unfolding instance_in
+returns c =
+    done ((instance_in c.args.stock.now c.args.cuts.now c.args.n)) c.requires.0.ranged c.args.insertions.now c.args.board c.requires.1 c.args.i c.requires.2 c.args.rects.now c.args.guide.now c.args.p c.requires.3 ((sym c.board_of.ensures ∙ c.if-board_of-board.false)) _ _ _
+    ((ap (λ (b : StockInstance). b.pattern) (row_is c.args.stock.now c.args.cuts.now c.args.n c.args.insertions.now c.args.board c.requires.1 _ refl c.stock_at-s.result c.stock_at-s.ensures))) ((let number : c.cut_of.result ≡ cut_of ((get_or c.args.insertions.now c.args.i 0)) = c.cut_of.ensures in
+    c.cut_at-cut.ensures ∙ ap (cut_at c.args.cuts.now) number ∙ sym (cut_in_lem c.args.stock.now c.args.cuts.now c.args.n (cut_of ((get_or c.args.insertions.now c.args.i 0))) ((omega (
+      arith,
+      cut_known ((instance_in c.args.stock.now c.args.cuts.now c.args.n)) c.args.insertions.now c.args.board c.requires.1 c.args.i c.requires.2,
+      cut_count c.args.stock.now c.args.cuts.now c.args.n,
+    )))))) c.row_of-h.ensures c.try_insert-inserted.new.sheet c.try_insert-inserted.result c.try_insert-inserted.ensures c.args.at c.args.plan.now
+    _ _ _ (c.try_insert-inserted.auto.sheet ∙ c.requires.3.room) (c.take_inserted.auto.guide ∙ c.requires.3.space) c.take_inserted.ensures
