@@ -1,0 +1,14 @@
+-- `project_line::grain_at` meets its contract, without the keyword and with it.
+use mathlib.Core.Path.{sym, ◌∙◌}
+use Rattle.project_line.specs.Lines.{grain}
+use Rattle.project_line.proofs.Lines.{taken_none, taken_some, taken_got, behind_none, behind_some}
+use borrow.Author.Rules.{rules}
+use Rattle.project_line.proofs.grain_at.Goals as goal
+
+pub returns-in_default : goal.returns-in_default
+unfolding grain
+returns-in_default c = taken_got _ _ _ ∙ sym (behind_none _ _ _ _ (taken_none _ _ _ c.keyword_at.ensures c.in_default.is))
+
+pub returns : goal.returns
+unfolding grain
+returns c = c.choice_of_two.ensures ∙ sym (behind_some _ _ _ _ _ _ (taken_some _ _ _ c.keyword_at.ensures _ _ c.in-Got.is))
