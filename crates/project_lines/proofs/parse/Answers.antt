@@ -20,7 +20,10 @@ pub returns-in-Bad : goal.returns-in-Bad
 returns-in-Bad c =
     let d = listed_of c.loop-at.draft in
     let lines = next_line c.args.text.now _ _ c.loop-at-test.true c.scan-end.ensures.0 in
-    (parsing_bad _ _ _ _ (sym c.loop-at.invariant.3 ∙ ap (meaning_from c.loop-at.number d) lines ∙ line_bad c.loop-at.number d _ _ _ _ c.read_line-line.ensures c.verdict_on.ensures _ (ap verdict_of c.in-Bad.is)), tt)
+    record {
+      parsing = parsing_bad _ _ _ _ (sym c.loop-at.invariant.3 ∙ ap (meaning_from c.loop-at.number d) lines ∙ line_bad c.loop-at.number d _ _ _ _ c.read_line-line.ensures c.verdict_on.ensures _ (ap verdict_of c.in-Bad.is));
+      room = tt;
+    }
 
 pub loop-at-preserved : goal.loop-at-preserved
 loop-at-preserved c =
@@ -42,4 +45,4 @@ returns c =
     let boards : length d.boards ≤ 64 = omega (arith, length_rows_of c.loop-at.draft.boards c.loop-at.invariant.0.0, c.loop-at.invariant.0.0.1) in
     let panels : length d.panels ≤ 64 = omega (arith, length_rows_of c.loop-at.draft.panels c.loop-at.invariant.0.1, c.loop-at.invariant.0.1.1) in
     let all = sym c.loop-at.invariant.3 ∙ ap (meaning_from c.loop-at.number d) (no_lines c.args.text.now _ c.loop-at-test.false) ∙ line_none _ d in
-    (parsing_file _ d _ _ _ all size boards panels c.put_file.ensures, appended_front c.put_file.ensures)
+    record { parsing = parsing_file _ d _ _ _ all size boards panels c.put_file.ensures; room = appended_front c.put_file.ensures }
