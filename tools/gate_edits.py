@@ -6,24 +6,10 @@
 A function has a choice if its text, or that of a private function it reaches in its crate, has a branch, a comparison, a remainder or a shift; a loop's
 bound alone is none. Which operand comes first, or which byte, is a choice too, and no pattern finds it: read the functions listed as having none.
 An edit is a wrong answer of it if it changes that text. A private function's wrong answers are those of the public ones above it."""
-import os, re, sys
-from try_edits import crates, parse, touched
+import re, sys
+from try_edits import crates, edits_of_gate, functions, touched
 
 CHOICE = re.compile(r"\b(if|match)\b|>>|<<| (?:<|>|<=|>=|==|!=|%) ")
-# Comments, contracts and loops' bounds.
-ASIDE = re.compile(r"//.*|^ *while .*|^ *(?:requires|ensures) .*|^ +×.*", re.M)
-HEAD = re.compile(r"^(?:    )?(pub )?(?:extern \"C\" )?fn (\w+)", re.M)
-
-
-def functions(crate):
-    """Name to (public, text) of each function of a crate: its code alone."""
-    found = {}
-    for file in sorted(os.listdir(f"crates/{crate}/src")):
-        text = ASIDE.sub("", open(f"crates/{crate}/src/{file}").read())
-        heads = list(HEAD.finditer(text))
-        for head, after in zip(heads, heads[1:] + [None]):
-            found[head.group(2)] = (bool(head.group(1)), text[head.end():after.start() if after else len(text)])
-    return found
 
 
 def own_text(name, found):
@@ -37,17 +23,11 @@ def own_text(name, found):
     return seen
 
 
-def gate_edits(crate):
-    folder = f"crates/{crate}/must-fail"
-    names = sorted(os.listdir(folder)) if os.path.isdir(folder) else []
-    return [e for n in names for e in parse(open(f"{folder}/{n}").read(), n[:-5])]
-
-
 def main():
     short = 0
     for crate in sys.argv[1:] or crates():
         found = functions(crate)
-        edits = [(e[0], touched(crate, e) or set()) for e in gate_edits(crate)]
+        edits = [(e[0], touched(crate, e) or set()) for e in edits_of_gate(crate)]
         for name, (public, _) in found.items():
             if not public:
                 continue
