@@ -1,4 +1,4 @@
-//! The proved planner behind a safe function. `liboptimizer.a` is written by `rt staticlib optimizer`.
+//! The proved planner behind a safe function. `bench/archive.sh optimizer_c optimizer` writes `target/staticlib/liboptimizer.a`.
 
 /// The least lent memory, in words.
 pub const WORKSPACE: usize = 16_384;

@@ -3,7 +3,7 @@
 # With ORACLE=path of the published Rust's program, each time stands beside the Rust's of the same run.
 set -eu
 cd "$(dirname "$0")/.."
-rt staticlib optimizer >/dev/null
+bench/archive.sh optimizer_c optimizer
 mkdir -p target/bench
 rustc -O -C target-cpu=x86-64 --edition 2021 bench/driver.rs -o target/bench/driver -L native=target/staticlib -l static=optimizer
 exec target/bench/driver time bench/projects "${REPS:-51}"

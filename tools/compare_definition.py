@@ -7,13 +7,11 @@ import os, random, shutil, subprocess, sys, tempfile
 sys.path.insert(0, os.path.dirname(os.path.abspath(__file__)))
 from case import project, text, words, antt_file, antt_answer
 
-HEAD = '''use Prim.Native.Nat.{ℕ}
-use mathlib.Core.Path.{_≡_, refl}
-use mathlib.Core.List.{List, [], _∷_}
-use Rattle·model·specs.specs.Answer.{Answer, plan, refused, answer}
-use Rattle·model·specs.specs.Evaluate.{evaluate}
-use Rattle·model·specs.specs.FileOf.{file}
-use Rattle·model·specs.specs.Stars.{verdict}
+HEAD = '''use Rattle.std.specs.Prelude.{ℕ, ◌≡◌, refl, List, [], ◌∷◌}
+use Rattle.model.specs.Answer.{Answer, plan, refused, answer}
+use Rattle.model.specs.Evaluate.{evaluate}
+use Rattle.model.specs.FileOf.{file}
+use Rattle.model.specs.Stars.{verdict}
 
 '''
 
@@ -54,12 +52,11 @@ def orders(path):
 
 out, count, kinds = randoms(*map(int, sys.argv[2:6])) if sys.argv[1] == "random" else orders(os.path.abspath(sys.argv[2]))
 with tempfile.TemporaryDirectory() as folder:
-    for crate in ("lists", "model"): shutil.copytree("crates/" + crate, folder + "/crates/" + crate)
-    shutil.rmtree(folder + "/crates/model/must-fail")
+    for crate in ("lists", "model"): shutil.copytree("crates/" + crate, folder + "/crates/" + crate, ignore=shutil.ignore_patterns("out", "must-fail"))
     open(folder + "/crates.txt", "w").write("lists:\nmodel: lists\n")
-    open(folder + "/crates/model/specs/Compared.antt", "w").write(out)
-    open(folder + "/crates/model/specs/Lib.antt", "a").write("pub mod Compared\n")
-    run = subprocess.run(["rt", "check"], cwd=folder, capture_output=True, text=True)
+    open(folder + "/crates/model/proofs/Compared.antt", "w").write(out)
+    open(folder + "/crates/model/proofs/Lib.antt", "a").write("pub mod Compared\n")
+    run = subprocess.run(["rt", "check"], cwd=folder + "/crates/model", capture_output=True, text=True)
     bad = [l for l in run.stdout.split("\n") if "Compared.antt" in l and "error" in l]
     print("%d compared, %s %s" % (count, "all equal" if run.returncode == 0 else "%d differ or were not computed" % max(1, len(bad)), kinds or ""))
     for l in bad[:5]: print(l[:300])

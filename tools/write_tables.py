@@ -1,5 +1,6 @@
 #!/usr/bin/env python3
-"""Writes crates/model/specs/Stars.antt and Plans.antt: files and the answers that the Rust gives them. Run from the repository's root."""
+"""Writes the tables crates/model/specs/Stars.antt and Plans.antt, files and the answers that the Rust gives them, and beside them, in proofs/, that the definition
+gives the same answers. Run from the repository's root."""
 import os, sys
 sys.path.insert(0, os.path.dirname(os.path.abspath(__file__)))
 from case import project, text, words, antt_file, antt_answer
@@ -47,7 +48,7 @@ def rows(cases):
     out = ""
     for i, (name, k, e, s, c) in enumerate(cases):
         w = words(text(project(k, e, s, c)))
-        out += "    -- %s\n    %s(%s,\n      %s)\n" % (name, "∷ " if i else "", antt_file(k, e, s, c), antt_answer(w, 8))
+        out += "    -- %s\n    %s(\n      %s,\n      %s,\n    )\n" % (name, "∷ " if i else "", antt_file(k, e, s, c), antt_answer(w, 10))
     return out + "    ∷ []\n"
 
 def limits():
@@ -57,17 +58,14 @@ def limits():
         out += "    %s(%s, %d)\n" % ("∷ " if i else "", antt_file(k, e, s, c), w if isinstance(w, int) else 0)
     return out + "    ∷ []\n"
 
-STARS_FILE = '''-- The ★ cases of document 01, proved together: the definition answers every file of the table as the table does.
--- (Written by tools/write_tables.py; the answers are the Rust's.)
-use Prim.Native.Nat.{{ℕ}}
-use mathlib.Core.Path.{{_≡_, refl}}
-use mathlib.Core.List.{{List, [], _∷_, map}}
-use Rattle·model·specs.specs.Project.{{projectOf}}
-use Rattle·model·specs.specs.Sheet.{{newSheet}}
-use Rattle·model·specs.specs.Account.{{accountFrom}}
-use Rattle·model·specs.specs.Answer.{{Answer, plan, refused, answer, madeBy}}
-use Rattle·model·specs.specs.Evaluate.{{evaluate}}
-use Rattle·model·specs.specs.FileOf.{{file}}
+STARS_FILE = '''-- The ★ cases of document 01: files, and the answers that the Rust gives them. proofs/Stars shows that the definition gives the same.
+-- (Written by tools/write_tables.py.)
+use Rattle.std.specs.Prelude.{{ℕ, List, [], ◌∷◌, map}}
+use Rattle.model.specs.Project.{{project_of}}
+use Rattle.model.specs.Sheet.{{new_sheet}}
+use Rattle.model.specs.Account.{{account_from}}
+use Rattle.model.specs.Answer.{{Answer, plan, refused, answer, made_by}}
+use Rattle.model.specs.FileOf.{{file}}
 
 unfoldable pub cases : List (List ℕ × Answer)
 cases =
@@ -82,35 +80,53 @@ verdict (refused n) = n
 
 -- ★4's splits took 540 and its merge gave 76 back: 4,200 of pieces, 5,336 of waste and 540 are 10,000 and 76
 unfoldable pub accounts : List ℕ → List (ℕ × ℕ)
-accounts bytes = map (λ m. accountFrom (projectOf bytes .kerf) (newSheet (m .0)) (m .1)) (madeBy bytes)
+accounts bytes = map (λ m. account_from (project_of bytes).kerf (new_sheet m.0) m.1) (made_by bytes)
 
 unfoldable pub star4 : List ℕ
 star4 = {star4}
+'''
+STARS_PROOF = '''-- The ★ cases of document 01, proved together: the definition answers every file of the table as the table does.
+-- (Written by tools/write_tables.py; the answers are the Rust's.)
+use Rattle.std.specs.Prelude.{ℕ, ◌≡◌, refl, List, [], ◌∷◌, map}
+use Rattle.model.specs.Answer.{answer}
+use Rattle.model.specs.Evaluate.{evaluate}
+use Rattle.model.specs.FileOf.{file}
+use Rattle.model.specs.Stars.{cases, limits, verdict, accounts, star4}
 
-pub stars : (map (λ c. answer (c .0)) cases ≡ map (λ c. c .1) cases)
-    × (map (λ c. verdict (answer (c .0))) limits ≡ map (λ c. c .1) limits)
+pub stars : (map (λ c. answer c.0) cases ≡ map (λ c. c.1) cases)
+    × (map (λ c. verdict (answer c.0)) limits ≡ map (λ c. c.1) limits)
     × (accounts star4 ≡ (540, 76) ∷ [])
 unfolding evaluate cases file limits accounts star4
 stars = (refl, refl, refl)
 '''
-PLANS_FILE = '''-- Plans of all three efforts, each with something that decides it, proved by computation.
+PLANS_FILE = '''-- Plans of all three efforts, each with something that decides it. proofs/Plans shows that the definition finds them.
 -- (Written by tools/write_tables.py; the answers are the Rust's.)
-use Prim.Native.Nat.{{ℕ}}
-use mathlib.Core.Path.{{_≡_, refl}}
-use mathlib.Core.List.{{List, [], _∷_, map}}
-use Rattle·model·specs.specs.Answer.{{Answer, plan, refused, answer}}
-use Rattle·model·specs.specs.Evaluate.{{evaluate}}
-use Rattle·model·specs.specs.FileOf.{{file}}
-use Rattle·model·specs.specs.Stars.{{cases, stars}}
+use Rattle.std.specs.Prelude.{{ℕ, List, [], ◌∷◌}}
+use Rattle.model.specs.Answer.{{Answer, plan, refused}}
+use Rattle.model.specs.FileOf.{{file}}
 
 unfoldable pub decided : List (List ℕ × Answer)
 decided =
-{cases}
+{cases}'''
+PLANS_PROOF = '''-- Plans of all three efforts, each with something that decides it, proved by computation.
+-- (Written by tools/write_tables.py; the answers are the Rust's.)
+use Rattle.std.specs.Prelude.{ℕ, ◌≡◌, refl, List, [], ◌∷◌, map}
+use Rattle.model.specs.Answer.{answer}
+use Rattle.model.specs.Evaluate.{evaluate}
+use Rattle.model.specs.FileOf.{file}
+use Rattle.model.specs.Stars.{cases}
+use Rattle.model.specs.Plans.{decided}
+use Rattle.model.proofs.Stars.{stars}
+
 -- the ★ cases and these
-pub plans : (map (λ c. answer (c .0)) cases ≡ map (λ c. c .1) cases) × (map (λ c. answer (c .0)) decided ≡ map (λ c. c .1) decided)
+pub plans : (map (λ c. answer c.0) cases ≡ map (λ c. c.1) cases) × (map (λ c. answer c.0) decided ≡ map (λ c. c.1) decided)
 unfolding evaluate decided file
-plans = (stars .0, refl)
+plans = (stars.0, refl)
 '''
-d = "crates/model/specs/"
-open(d + "Stars.antt", "w").write(STARS_FILE.format(cases=rows(STARS), limits=limits(), star4=antt_file(*STARS[3][1:])))
-open(d + "Plans.antt", "w").write(PLANS_FILE.format(cases=rows(PLANS)))
+
+def write(path, contents): open("crates/model/" + path, "w").write(contents)
+
+write("specs/Stars.antt", STARS_FILE.format(cases=rows(STARS), limits=limits(), star4=antt_file(*STARS[3][1:])))
+write("proofs/Stars.antt", STARS_PROOF)
+write("specs/Plans.antt", PLANS_FILE.format(cases=rows(PLANS)))
+write("proofs/Plans.antt", PLANS_PROOF)

@@ -5,7 +5,7 @@ set -eu
 rust=$(cd "$1" && pwd)
 cd "$(dirname "$0")/../.."
 root=$(pwd)
-rt staticlib insertion >/dev/null
+bench/archive.sh insertion insertion
 room=$(mktemp -d)
 trap 'rm -rf "$room"' EXIT
 cp -R "$rust/src" "$rust/serde_stub" "$rust/Cargo.toml" "$rust/Cargo.lock" "$room"
