@@ -168,3 +168,13 @@ pub fn optimize(file: &[u8], workspace: &mut [u32], plan: &mut [u32]) -> Answer
         Checked::Passed => optimize_project(file, workspace, plan),
     }
 }
+
+// The same for callers that take a number: 0 for a plan. The crate optimizer_c exports it to C and Rust.
+pub fn optimizer_optimize(file: &[u8], workspace: &mut [u32], plan: &mut [u32]) -> u32
+    ensures { Promise file.now workspace.old plan.old result workspace.new plan.new }
+{
+    match optimize(file, workspace, plan) {
+        Answer::Plan => 0,
+        Answer::Refused(n) => n,
+    }
+}

@@ -3,14 +3,9 @@
 
 ghost use Rattle.optimizer.specs.Promise.{Promise};
 
-use optimizer::Answer;
-
 #[unsafe(no_mangle)]
 pub extern "C" fn optimizer_optimize(file: &[u8], workspace: &mut [u32], plan: &mut [u32]) -> u32
     ensures { Promise file.now workspace.old plan.old result workspace.new plan.new }
 {
-    match optimizer::optimize(file, workspace, plan) {
-        Answer::Plan => 0,
-        Answer::Refused(n) => n,
-    }
+    optimizer::optimizer_optimize(file, workspace, plan)
 }
