@@ -16,9 +16,9 @@ module _ {file w p : List ℕ} {n : ℕ} (h : Promise file (replicate least_work
   unfolding file_text
   told = ap (λ (k : ℕ). answer_text k p) h.answer ∙ ap (answer_text (number_of_answer (planned file).answer)) h.plan
 
-  IsPlan : n ≡ 0 → plan_text p ≡ answer_text n p
+  is_plan : n ≡ 0 → plan_text p ≡ answer_text n p
   unfolding answer_text
-  IsPlan e = sym (ap (λ (k : ℕ). answer_text k p) e)
+  is_plan e = sym (ap (λ (k : ℕ). answer_text k p) e)
 
   is_refusal : (n ≡ 0 → ⊥) → refusal_text n ≡ answer_text n p
   unfolding answer_text
@@ -29,7 +29,7 @@ module _ {file w p : List ℕ} {n : ℕ} (h : Promise file (replicate least_work
   put_in e a = (appended_is a (e ∙ told), appended_front a)
 
   pub text_of_plan : {out out' : List ℕ} {r : ℕ} → n ≡ 0 → Appended out 0 (plan_text p) out' r → Appended out 0 (file_text file) out' r × Front r out'
-  text_of_plan e a = put_in (IsPlan e) a
+  text_of_plan e a = put_in (is_plan e) a
 
   pub text_of_refusal : {out out' : List ℕ} {r : ℕ} → (n ≡ 0 → ⊥) → Appended out 0 (refusal_text n) out' r → Appended out 0 (file_text file) out' r × Front r out'
   text_of_refusal e a = put_in (is_refusal e) a
