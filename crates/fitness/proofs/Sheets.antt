@@ -1,5 +1,5 @@
 -- The definition's fitness depends only on the sheets' placed areas and board areas.
-use Rattle.std.proofs.Common.{◌≡◌, ℕ, ◌+◌, ◌-◌, ◌<◌, ◌≤◌, eqb, List, [], ◌∷◌, map, length, refl, ap, ◌∙◌, arith, ne_eqb}
+use Rattle.std.proofs.Common.{◌≡◌, ℕ, ◌+◌, ◌<◌, ◌≤◌, eqb, List, [], ◌∷◌, map, length, refl, ap, ◌∙◌, arith, ne_eqb}
 use mathlib.Core.Option.{none, some, get_or}
 use lib.Dec.{eqb-suc-zero}
 use lib.Ieee.{Float, binary64, add, div}

@@ -7,7 +7,6 @@ use lib.ListN.{length}
 use Rattle.model.specs.Refusal.{most_side}
 use Rattle.model.specs.Split.{split_direction}
 use Rattle.model.specs.Merge.{merges_any}
-use Rattle.model.specs.Guide.{cut}
 use Rattle.model.specs.Sheet.{GuillotineSheet, Insertion, Place, split_rects, split_tree, insert_at}
 use Rattle.trust.proofs.Placing.{Good}
 use Rattle.trust.proofs.RectLayout.{layout_perm}

@@ -6,9 +6,7 @@ use native.Mathlib.Omega.{arith}
 use mathlib.Core.Path.{◌∙◌, ◌≡◌, ap, ap₂, refl, sym}
 use mathlib.Core.Logic.{◌⊎◌, inl, inr}
 use mathlib.Core.List.{[], ◌++◌, ◌∷◌, List, append_assoc}
-use mathlib.Core.Option.{none}
 use lib.Ieee.{fits, lt}
-use lib.Ieee.Fits.{two}
 use lib.ListN.{get_or-append, drop, get_or, length, length-append, length-drop, length-take, set, take, take-append-drop}
 use lib.Seq.{append_snoc, drop-append-add, drop_at, drop-cons, drop-drop, get_or-append-add, get_or-drop, get_or-take, length_paste_head, length-take-le, paste, set_at, set_split, sets-eq, take-append-le, take_at, take-length, take-nil, take-suc, take-take}
 use Rattle.lists.specs.Parts.{part, patch}

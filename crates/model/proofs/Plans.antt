@@ -1,6 +1,6 @@
 -- Plans of all three efforts, each with something that decides it, proved by computation.
 -- (Written by tools/write_tables.py; the answers are the Rust's.)
-use Rattle.std.specs.Prelude.{ℕ, ◌≡◌, refl, List, [], ◌∷◌, map}
+use Rattle.std.specs.Prelude.{◌≡◌, refl, map}
 use Rattle.model.specs.Answer.{answer}
 use Rattle.model.specs.Evaluate.{evaluate}
 use Rattle.model.specs.FileOf.{file}

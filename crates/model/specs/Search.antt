@@ -1,6 +1,6 @@
 -- The search: seeds, the first population, generations, survival and the final choice, from `heuristic_variants` to `select_best_valid_candidate`.
 use Rattle.std.specs.Prelude.{ℕ, zero, suc, ◌+◌, Bool, true, false, not, List, [], ◌∷◌, ◌++◌, map, take}
-use Rattle.std.proofs.Math.Option.{Option, none, some}
+use Rattle.std.proofs.Math.Option.{Option, some}
 use Rattle.lists.specs.Base.{◌>>=◌, is_greater, to_list, range, retain, enumerate, find, first_best, sort_by, remove_at, concat_map}
 use Rattle.model.specs.Types.{OptimizerEffort, BaselineGuillotineHeuristic, GuillotineRectChoice, GuillotineSplitHeuristic, RotationPreference, StockInstance, CutInstance, InstanceKey, stock_key, cut_key, same_key}
 use Rattle.model.specs.Sheet.{GuillotineSheet, rebuild, sheet_keys}

@@ -4,7 +4,7 @@ use Rattle.std.specs.Prelude.{ℕ, List, [], ◌∷◌, map}
 use Rattle.model.specs.Project.{project_of}
 use Rattle.model.specs.Sheet.{new_sheet}
 use Rattle.model.specs.Account.{account_from}
-use Rattle.model.specs.Answer.{Answer, plan, refused, answer, made_by}
+use Rattle.model.specs.Answer.{Answer, plan, refused, made_by}
 use Rattle.model.specs.FileOf.{file}
 
 unfoldable pub cases : List (List ℕ × Answer)

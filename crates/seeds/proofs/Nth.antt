@@ -13,7 +13,7 @@ use Rattle.model.specs.declared.InstanceKey.{InstanceKey}
 use Rattle.model.specs.Types.{cut_key}
 use Rattle.model.specs.TinyPrng.{wrap}
 use Rattle.model.specs.Expand.{ProblemInstance, sorted_cut_order, shuffle_cut_order}
-use Rattle.model.specs.Search.{SearchNumbers as Numbers, Seed, heuristic, default_heuristic, other_heuristics, sorted_seed, variant_seeds, shuffled_seed, initial_seeds}
+use Rattle.model.specs.Search.{SearchNumbers as Numbers, Seed, default_heuristic, other_heuristics, sorted_seed, variant_seeds, shuffled_seed, initial_seeds}
 use Rattle.shuffle.specs.Shuffle.{shuffled}
 use Rattle.shuffle.proofs.Shuffle.{shuffled_perm, shuffled_keys}
 use Rattle.candidate.specs.Stands.{cut_in}

@@ -12,7 +12,7 @@ use Rattle.model.specs.declared.Rect.{Rect}
 use Rattle.model.specs.declared.Direction.{Direction}
 use Rattle.model.specs.declared.CutInstance.{CutInstance}
 use Rattle.model.specs.declared.InstanceKey.{InstanceKey}
-use Rattle.model.specs.Types.{rect, cut_key, stock_rect}
+use Rattle.model.specs.Types.{cut_key, stock_rect}
 use Rattle.model.specs.Guide.{GuideCut, SliceNode, cut, leaf, free, cut_piece, span, guide_cut, cut_off, insert_subtree}
 use Rattle.model.specs.Sheet.{GuillotineSheet, Insertion, Place, insert_at}
 use Rattle.model.specs.Refusal.{most_instances}

@@ -14,7 +14,7 @@ use Rattle.model.specs.declared.Direction.{Direction}
 use Rattle.model.specs.declared.StockInstance.{StockInstance}
 use Rattle.model.specs.declared.CutInstance.{CutInstance}
 use Rattle.model.specs.declared.InstanceKey.{InstanceKey}
-use Rattle.model.specs.Types.{rect, stock_rect, cut_key}
+use Rattle.model.specs.Types.{stock_rect, cut_key}
 use Rattle.model.specs.Guide.{SliceNode, cut, leaf, free, cut_piece, span, cut_off, insert_subtree}
 use Rattle.model.specs.Sheet.{GuillotineSheet, Insertion, Place, new_sheet, insert_at}
 use Rattle.trust.proofs.Geometry.{Positive}

@@ -14,7 +14,7 @@ use Rattle.model.specs.declared.CutInstance.{CutInstance}
 use Rattle.model.specs.declared.FitResult.{FitResult}
 use Rattle.model.specs.declared.PatternDirection.{PatternDirection}
 use Rattle.model.specs.declared.RotationPreference.{RotationPreference}
-use Rattle.model.specs.Types.{rect, no_rect}
+use Rattle.model.specs.Types.{no_rect}
 use Rattle.model.specs.Fit.{pattern_matches, rotate_pattern, upright_test, upright_result, turning_matters, rotated_test, rotated_result, upright_fit, rotated_fit, fit_cut_in_rects}
 use Rattle.model.specs.Sheet.{GuillotineSheet, Insertion, Place, places, best_place, insert_at, try_insert}
 use Rattle.lists.proofs.Perm.{All, all_append}

@@ -12,7 +12,6 @@ use Rattle.model.specs.declared.BaselineGuillotineHeuristic.{BaselineGuillotineH
 use Rattle.model.specs.Types.{layout_of}
 use Rattle.model.specs.Fitness.{fitness, positive_zero, one}
 use Rattle.model.specs.Project.{project_of}
-use Rattle.model.specs.Guide.{free}
 use Rattle.model.specs.Sheet.{GuillotineSheet}
 use Rattle.model.specs.Plan.{sheet_words, contents_from, plan_words}
 use Rattle.model.specs.Answer.{plan, answer_with}

@@ -1,7 +1,6 @@
 -- `adjacent::merge_adjacent_rects` meets its contract: one law for each way out.
 use mathlib.Core.Path.{sym, ◌∙◌}
 use Rattle.adjacent.proofs.Adjacent.{column_down, column_up, column_neither, column_other}
-use borrow.Author.Rules.{rules}
 use Rattle.adjacent.proofs.merge_adjacent_rects.Goals as goal
 
 pub returns-then-left-kerf_width : goal.returns-then-left-kerf_width

@@ -1,7 +1,6 @@
 -- `adjacent::merge_in_row` meets its contract: one law for each way out.
 use mathlib.Core.Path.{sym, ◌∙◌}
 use Rattle.adjacent.proofs.Adjacent.{row_right, row_left, row_neither, row_other}
-use borrow.Author.Rules.{rules}
 use Rattle.adjacent.proofs.merge_in_row.Goals as goal
 
 pub returns-then-left-kerf_width : goal.returns-then-left-kerf_width

@@ -1,7 +1,6 @@
 -- `answer_text::put_refusal` meets its contract.
 use Rattle.append.proofs.Laws.{appended_then}
 use Rattle.answer_text.specs.Text.{refusal_text}
-use borrow.Author.Rules.{rules}
 use Rattle.answer_text.proofs.put_refusal.Goals as goal
 
 pub returns : goal.returns

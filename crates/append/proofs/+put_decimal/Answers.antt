@@ -1,9 +1,6 @@
 -- `append::put_decimal` meets its contract. Each call has a smaller number.
-use Prim.Native.Nat.{ℕ, ◌<◌}
-use native.Mathlib.Omega.{arith}
 use mathlib.Core.Path.{sym}
 use Rattle.append.proofs.Laws.{appended_then, appended_is, decimal_digit, decimal_more}
-use borrow.Author.Rules.{rules}
 use Rattle.append.proofs.+put_decimal.Goals as goal
 
 pub returns-then-number-lt10 : goal.returns-then-number-lt10

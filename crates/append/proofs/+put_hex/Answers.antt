@@ -1,9 +1,6 @@
 -- `append::put_hex` meets its contract. Each call has one digit less to put.
-use Prim.Native.Nat.{ℕ, ◌<◌}
-use native.Mathlib.Omega.{arith}
 use mathlib.Core.Path.{sym}
 use Rattle.append.proofs.Laws.{appended_none, appended_then, appended_is, hex_none, hex_more}
-use borrow.Author.Rules.{rules}
 use Rattle.append.proofs.+put_hex.Goals as goal
 
 pub returns-then-count-eq0 : goal.returns-then-count-eq0

@@ -1,9 +1,6 @@
 -- `append::put_number` meets its contract. Each call has one byte less to put.
-use Prim.Native.Nat.{ℕ, ◌<◌}
-use native.Mathlib.Omega.{arith}
 use mathlib.Core.Path.{sym}
-use Rattle.append.proofs.Laws.{appended_none, appended_then, appended_is, bytes_none, bytes_more}
-use borrow.Author.Rules.{rules}
+use Rattle.append.proofs.Laws.{appended_then, appended_is, bytes_more}
 use Rattle.append.proofs.+put_number.Goals as goal
 
 pub returns : goal.returns

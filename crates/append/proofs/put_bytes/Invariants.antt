@@ -1,11 +1,7 @@
 -- `append::put_bytes` meets its contract: the bytes passed are in the buffer.
 use Prim.Native.Nat.{◌≤◌, ◌-◌}
-use native.Mathlib.Omega.{arith}
 use lib.ListN.{length, take}
-use lib.Seq.{take_all}
 use Rattle.append.specs.Appending.{Appended}
-use Rattle.append.proofs.Laws.{appended_none, appended_more, appended_is}
-use borrow.Author.Rules.{rules}
 use Rattle.append.proofs.put_bytes.Given as goal
 
 abbrev pub invariant-loop-i : goal.invariant-loop-i

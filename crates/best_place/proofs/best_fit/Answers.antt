@@ -1,7 +1,6 @@
 -- `best_place::best_fit` meets its contract: from the first rectangle in which the cut fits, or nothing.
 use native.Mathlib.Omega.{arith}
 use Rattle.best_place.proofs.Search.{search_all, search_none}
-use borrow.Author.Rules.{rules}
 use Rattle.best_place.proofs.best_fit.Goals as goal
 
 pub returns-then-first-sheet : goal.returns-then-first-sheet

@@ -1,7 +1,6 @@
 -- `best_place::consider_fit` meets its contract: the first fit, a lower score, or none of both.
 use mathlib.Core.Path.{sym, ◌∙◌}
 use Rattle.best_place.proofs.Search.{over_first, over_lower, over_higher}
-use borrow.Author.Rules.{rules}
 use Rattle.best_place.proofs.consider_fit.Goals as goal
 
 pub returns-in-Nothing : goal.returns-in-Nothing

@@ -1,6 +1,5 @@
 -- `best_place::consider_rect` meets its contract: no fit, one, or two in a row.
 use Rattle.best_place.proofs.Search.{over_none, over_then}
-use borrow.Author.Rules.{rules}
 use Rattle.best_place.proofs.consider_rect.Goals as goal
 
 pub returns-in-Nothing : goal.returns-in-Nothing

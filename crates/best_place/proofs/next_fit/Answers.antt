@@ -1,12 +1,10 @@
 -- `best_place::next_fit` meets its contract: from here on the same rectangle is next. The measure is what is left of the count.
-use mathlib.Core.Path.{◌≡◌, refl, sym, ◌∙◌}
-use Prim.Native.Nat.{◌-◌, ◌≤◌, ◌<◌}
+use mathlib.Core.Path.{sym, ◌∙◌}
+use Prim.Native.Nat.{◌<◌}
 use native.Mathlib.Omega.{arith}
-use lib.ListN.{get_or, drop}
-use Rattle.best_place.specs.Places.{next_fit}
-use Rattle.rect_words.specs.SheetWords.{rect_at, rects_in}
+use lib.ListN.{get_or}
+use Rattle.rect_words.specs.SheetWords.{rect_at}
 use Rattle.best_place.proofs.Search.{next_hit, next_miss, next_end}
-use borrow.Author.Rules.{rules}
 use Rattle.best_place.proofs.next_fit.Goals as goal
 
 pub returns-then-lies_any_way : goal.returns-then-lies_any_way

@@ -1,12 +1,9 @@
 -- `best_place::next_fit` meets its contract: from here on the same rectangle is next. The measure is what is left of the count.
-use mathlib.Core.Path.{◌≡◌, refl, sym, ◌∙◌}
-use Prim.Native.Nat.{◌-◌, ◌≤◌, ◌<◌}
-use native.Mathlib.Omega.{arith}
-use lib.ListN.{get_or, drop}
+use mathlib.Core.Path.{◌≡◌}
+use Prim.Native.Nat.{◌-◌, ◌≤◌}
+use lib.ListN.{drop}
 use Rattle.best_place.specs.Places.{next_fit}
-use Rattle.rect_words.specs.SheetWords.{rect_at, rects_in}
-use Rattle.best_place.proofs.Search.{next_hit, next_miss, next_end}
-use borrow.Author.Rules.{rules}
+use Rattle.rect_words.specs.SheetWords.{rects_in}
 use Rattle.best_place.proofs.next_fit.Given as goal
 
 abbrev pub invariant-loop-index : goal.invariant-loop-index

@@ -2,7 +2,6 @@
 use native.Mathlib.Omega.{arith}
 use Rattle.candidate.specs.Entries.{insertion_word}
 use Rattle.candidate.proofs.Codes.{heuristic_most}
-use borrow.Author.Rules.{rules}
 use Rattle.candidate.proofs.insertion_word.Goals as goal
 
 pub overflow_add-result-2 : goal.overflow_add-result-2

@@ -1,11 +1,11 @@
 -- `candidate::new_candidate` meets its contract.
-use Prim.Native.Nat.{ℕ, ◌-◌, ◌≤◌}
+use Prim.Native.Nat.{ℕ}
 use native.Mathlib.Omega.{arith}
 use mathlib.Core.Path.{◌≡◌, sym, ap, ◌∙◌}
 use Rattle.lists.specs.Base.{count_from, range}
 use Rattle.lists.proofs.Counts.{range_more, range_all}
 use Rattle.candidate.specs.Moves.{new_words}
-use lib.ListN.{length, take, replicate}
+use lib.ListN.{take, replicate}
 use borrow.Author.Rules.{rules}
 use Rattle.candidate.proofs.new_candidate.Goals as goal
 

@@ -1,12 +1,8 @@
 -- `candidate::new_candidate` meets its contract.
-use Prim.Native.Nat.{ℕ, ◌-◌, ◌≤◌}
-use native.Mathlib.Omega.{arith}
-use mathlib.Core.Path.{◌≡◌, sym, ap, ◌∙◌}
-use Rattle.lists.specs.Base.{count_from, range}
-use Rattle.lists.proofs.Counts.{range_more, range_all}
-use Rattle.candidate.specs.Moves.{new_words}
-use lib.ListN.{length, take, replicate}
-use borrow.Author.Rules.{rules}
+use Prim.Native.Nat.{◌-◌, ◌≤◌}
+use mathlib.Core.Path.{◌≡◌}
+use Rattle.lists.specs.Base.{range}
+use lib.ListN.{length, take}
 use Rattle.candidate.proofs.new_candidate.Given as goal
 
 abbrev pub invariant-loop-i : goal.invariant-loop-i

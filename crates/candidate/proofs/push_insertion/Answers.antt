@@ -1,6 +1,5 @@
 -- `candidate::push_insertion` meets its contract.
 use Rattle.candidate.specs.Moves.{with_insertion}
-use borrow.Author.Rules.{rules}
 use Rattle.candidate.proofs.push_insertion.Goals as goal
 
 pub returns : goal.returns

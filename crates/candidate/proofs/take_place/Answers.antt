@@ -2,7 +2,6 @@
 use native.Mathlib.Omega.{arith}
 use mathlib.Core.Path.{sym, ◌∙◌}
 use Rattle.candidate.proofs.Ends.{end_unused, end_sheet, end_new, sheet_made}
-use borrow.Author.Rules.{rules}
 use Rattle.candidate.proofs.take_place.Goals as goal
 
 pub returns-then-inst-j : goal.returns-then-inst-j

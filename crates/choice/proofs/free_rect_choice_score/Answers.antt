@@ -1,7 +1,6 @@
 -- `choice::free_rect_choice_score` meets its contract: one order of the measures for each choice.
 use Rattle.model.specs.Choice.{free_rect_choice_score}
 use Rattle.choice.specs.Numbers.{waste_of}
-use borrow.Author.Rules.{rules}
 use Rattle.choice.proofs.free_rect_choice_score.Goals as goal
 
 pub returns-in-Area : goal.returns-in-Area

@@ -1,7 +1,6 @@
 -- `choice::maximize_area` meets its contract: the two areas as products, a tie is horizontal.
 use Rattle.model.specs.Split.{split_direction}
 use Rattle.lists.proofs.Tests.{tests}
-use borrow.Author.Rules.{rules}
 use Rattle.choice.proofs.maximize_area.Goals as goal
 
 pub returns-then-below-beside : goal.returns-then-below-beside

@@ -1,7 +1,6 @@
 -- `choice::split_direction` meets its contract: one rule for each heuristic.
 use Rattle.model.specs.Split.{split_direction}
 use Rattle.lists.proofs.Tests.{tests}
-use borrow.Author.Rules.{rules}
 use Rattle.choice.proofs.split_direction.Goals as goal
 
 pub returns-in-Horizontal : goal.returns-in-Horizontal

@@ -1,7 +1,6 @@
 -- `choice::waste_left` meets its contract: the three measures by their definitions.
 use Rattle.model.specs.Choice.{area_waste, short_side, long_side}
 use Rattle.choice.specs.Numbers.{waste_of}
-use borrow.Author.Rules.{rules}
 use Rattle.choice.proofs.waste_left.Goals as goal
 
 pub returns : goal.returns

@@ -1,6 +1,5 @@
 -- `evaluation::best_donor_bin_index` meets its contract.
 use Rattle.evaluation.proofs.BestIndex.{donor_index}
-use borrow.Author.Rules.{rules}
 use Rattle.evaluation.proofs.best_donor_bin_index.Goals as goal
 
 pub returns : goal.returns

@@ -1,8 +1,5 @@
 -- The loop's invariant: the key is among what is left exactly if it is among all.
-use Prim.Native.Nat.{◌-◌, ◌≤◌}
-use mathlib.Core.Path.{◌≡◌, refl, sym, ◌∙◌}
-use lib.ListN.{length, drop}
-use Rattle.evaluation.specs.Keys.{elem}
+use mathlib.Core.Path.{sym, ◌∙◌}
 use Rattle.evaluation.proofs.Walks.{elem_hit, elem_miss, elem_end}
 use borrow.Author.Rules.{rules}
 use Rattle.evaluation.proofs.contains_key.Goals as goal

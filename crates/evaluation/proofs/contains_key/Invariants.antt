@@ -1,10 +1,8 @@
 -- The loop's invariant: the key is among what is left exactly if it is among all.
 use Prim.Native.Nat.{◌-◌, ◌≤◌}
-use mathlib.Core.Path.{◌≡◌, refl, sym, ◌∙◌}
+use mathlib.Core.Path.{◌≡◌}
 use lib.ListN.{length, drop}
 use Rattle.evaluation.specs.Keys.{elem}
-use Rattle.evaluation.proofs.Walks.{elem_hit, elem_miss, elem_end}
-use borrow.Author.Rules.{rules}
 use Rattle.evaluation.proofs.contains_key.Given as goal
 
 abbrev pub invariant-loop-i : goal.invariant-loop-i

@@ -1,14 +1,9 @@
 -- The loop's invariant: what is left, from the best sheet so far, gives what all sheets give.
-use Prim.Native.Nat.{◌+◌, ◌-◌, ◌≤◌}
-use native.Mathlib.Omega.{arith}
+use Prim.Native.Nat.{◌-◌, ◌≤◌}
 use mathlib.Core.Path.{◌≡◌}
-use mathlib.Core.Logic.{⊎_elim}
-use mathlib.Core.Bool.{Bool}
 use lib.ListN.{length}
-use lib.Ieee.{Float}
 use Rattle.evaluation.specs.OnSheets.{share_at, better}
-use Rattle.evaluation.proofs.BestIndex.{Held, best_one, held_next, held_stays, best_all}
-use borrow.Author.Rules.{rules}
+use Rattle.evaluation.proofs.BestIndex.{Held}
 use Rattle.evaluation.proofs.first_best.Given as goal
 
 abbrev pub invariant-loop-k : goal.invariant-loop-k

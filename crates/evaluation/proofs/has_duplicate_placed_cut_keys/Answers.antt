@@ -1,8 +1,5 @@
 -- The loop's invariant: what is left has a key twice exactly if all have.
-use Prim.Native.Nat.{◌-◌, ◌≤◌}
-use mathlib.Core.Path.{◌≡◌, refl, sym, ◌∙◌}
-use lib.ListN.{length, drop}
-use Rattle.evaluation.specs.Keys.{repeats}
+use mathlib.Core.Path.{sym, ◌∙◌}
 use Rattle.evaluation.proofs.Walks.{repeats_hit, repeats_miss, repeats_end}
 use borrow.Author.Rules.{rules}
 use Rattle.evaluation.proofs.has_duplicate_placed_cut_keys.Goals as goal

@@ -1,10 +1,8 @@
 -- The loop's invariant: what is left has a key twice exactly if all have.
 use Prim.Native.Nat.{◌-◌, ◌≤◌}
-use mathlib.Core.Path.{◌≡◌, refl, sym, ◌∙◌}
+use mathlib.Core.Path.{◌≡◌}
 use lib.ListN.{length, drop}
 use Rattle.evaluation.specs.Keys.{repeats}
-use Rattle.evaluation.proofs.Walks.{repeats_hit, repeats_miss, repeats_end}
-use borrow.Author.Rules.{rules}
 use Rattle.evaluation.proofs.has_duplicate_placed_cut_keys.Given as goal
 
 abbrev pub invariant-loop-i : goal.invariant-loop-i

@@ -1,12 +1,9 @@
 -- `evaluation::is_valid` meets its contract.
 use native.Mathlib.Omega.{arith}
-use mathlib.Core.Path.{◌≡◌, sym, ap, ◌∙◌}
+use mathlib.Core.Path.{◌≡◌, ap, ◌∙◌}
 use mathlib.Core.Bool.{false, not}
-use lib.ListN.{length}
-use lib.Seq.{length-take-le}
 use Rattle.evaluation.specs.Keys.{repeats}
 use Rattle.evaluation.proofs.Validity.{numbers_once, valid_none, valid_some}
-use borrow.Author.Rules.{rules}
 use Rattle.evaluation.proofs.is_valid.Goals as goal
 
 pub returns-then-c-ne0 : goal.returns-then-c-ne0

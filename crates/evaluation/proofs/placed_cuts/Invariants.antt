@@ -1,12 +1,9 @@
 -- The loop's invariant: the cuts of the insertions so far.
-use Prim.Native.Nat.{ℕ, ◌-◌, ◌≤◌}
-use native.Mathlib.Omega.{arith}
+use Prim.Native.Nat.{◌-◌, ◌≤◌}
 use mathlib.Core.Path.{◌≡◌}
-use mathlib.Core.List.{List, map}
+use mathlib.Core.List.{map}
 use lib.ListN.{length, take}
 use Rattle.candidate.specs.Entries.{cut_of}
-use Rattle.lists.proofs.Arrays.{filled_more}
-use borrow.Author.Rules.{rules}
 use Rattle.evaluation.proofs.placed_cuts.Given as goal
 
 abbrev pub invariant-loop-i : goal.invariant-loop-i

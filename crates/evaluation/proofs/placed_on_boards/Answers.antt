@@ -1,13 +1,13 @@
 -- The loop's invariant: the areas of the insertions so far, summed up by their boards.
-use Prim.Native.Nat.{ℕ, ◌-◌, ◌≤◌}
+use Prim.Native.Nat.{ℕ}
 use native.Mathlib.Omega.{arith}
-use mathlib.Core.Path.{◌≡◌, ap, ◌∙◌}
+use mathlib.Core.Path.{ap, ◌∙◌}
 use mathlib.Core.List.{List}
-use lib.ListN.{length, get_or, take, replicate, length-replicate, get_or-replicate}
+use lib.ListN.{replicate, length-replicate, get_or-replicate}
 use Rattle.model.specs.Types.{cut_area}
 use Rattle.rows.specs.Rows.{cut_at}
-use Rattle.evaluation.specs.OnSheets.{word_area, InTables}
-use Rattle.evaluation.proofs.OnBoards.{Summed, summed_none, summed_most, summed_more, summed_all}
+use Rattle.evaluation.specs.OnSheets.{InTables}
+use Rattle.evaluation.proofs.OnBoards.{summed_none, summed_most, summed_more, summed_all}
 use Rattle.lists.proofs.Every.{all_get}
 use borrow.Author.Rules.{rules}
 use Rattle.evaluation.proofs.placed_on_boards.Goals as goal
@@ -28,9 +28,11 @@ pub loop-i-preserved : goal.loop-i-preserved
 loop-i-preserved c =
     let cuts : List ℕ = c.args.cuts.now in
     let words : List ℕ = c.args.insertions.now in
-    let known = all_get (InTables cuts) words c.loop-i.i 0 c.requires.0 c.loop-i-test.true in
-    (search rules, summed_more cuts words c.loop-i.areas c.loop-i.i c.board_of-board.result c.area.result c.loop-i-test.true c.board_of-board.ensures ((let cuts : List ℕ = c.args.cuts.now in
-    c.area.ensures ∙ ap cut_area c.cut_at-cut.ensures ∙ ap (λ (k : ℕ). cut_area (cut_at cuts k)) c.cut_of.ensures)) (omega (arith, c.board_of-board.ensures, known.0)) c.loop-i.invariant.1)
+    let known = all_get (InTables cuts) words c.loop-i.i 0 c.requires.0 c.loop-i-test.true in (
+      search rules,
+      summed_more cuts words c.loop-i.areas c.loop-i.i c.board_of-board.result c.area.result c.loop-i-test.true c.board_of-board.ensures ((let cuts : List ℕ = c.args.cuts.now in
+          c.area.ensures ∙ ap cut_area c.cut_at-cut.ensures ∙ ap (λ (k : ℕ). cut_area (cut_at cuts k)) c.cut_of.ensures)) (omega (arith, c.board_of-board.ensures, known.0)) c.loop-i.invariant.1,
+    )
 
 pub returns : goal.returns
 returns c = summed_all c.args.cuts.now c.args.insertions.now c.loop-i.areas c.loop-i.i c.loop-i-test.false c.loop-i.invariant.0 c.loop-i.invariant.1

@@ -1,14 +1,8 @@
 -- `evaluation::score` meets its contract: each sum is that of the sheets' areas.
-use Prim.Native.Nat.{◌≤◌, ◌-◌}
-use native.Mathlib.Nat.{le_trans, le_of_eq}
+use Prim.Native.Nat.{◌-◌}
 use native.Mathlib.Omega.{arith}
-use mathlib.Core.Path.{◌≡◌, sym, ap₂}
-use mathlib.Core.List.{[]}
-use lib.ListN.{length}
-use lib.Seq.{length-take-le}
-use Rattle.evaluation.proofs.Sheets.{few_sheets}
+use mathlib.Core.Path.{ap₂}
 use Rattle.evaluation.proofs.Scored.{used_most, cut_most, score_words}
-use borrow.Author.Rules.{rules}
 use Rattle.evaluation.proofs.score.Goals as goal
 
 pub sum_areas-used-requires : goal.sum_areas-used-requires

@@ -1,23 +1,15 @@
 -- The loop's invariant: both areas of the sheets so far.
-use Prim.Native.Nat.{ℕ, ◌-◌, ◌≤◌}
 use native.Mathlib.Omega.{arith}
-use mathlib.Core.Path.{◌≡◌, refl, sym, ap, ◌∙◌}
-use mathlib.Core.List.{List, [], map}
-use lib.ListN.{length, get_or, take}
-use lib.Seq.{length-take-le}
-use Rattle.model.specs.Types.{stock_area}
-use Rattle.rows.specs.Rows.{stock_at}
-use Rattle.evaluation.proofs.Sheets.{few_insertions, sheet_known, words_known, words_area, areas_of}
-use Rattle.lists.proofs.Arrays.{filled_more}
-use borrow.Author.Rules.{rules}
+use mathlib.Core.Path.{◌≡◌}
+use mathlib.Core.List.{[]}
+use Rattle.evaluation.proofs.Sheets.{sheet_known, words_known, words_area, areas_of}
 use Rattle.evaluation.proofs.sheet_areas.Goals as goal
 
 pub placed_on_boards-by_board-requires : goal.placed_on_boards-by_board-requires
-placed_on_boards-by_board-requires c =
-    (
-      words_known c.args.stock.now c.args.cuts.now c.args.inst [] c.args.c c.requires.0 c.requires.1,
-      omega (arith, words_area c.args.stock.now c.args.cuts.now c.args.inst [] c.args.c c.requires.0 c.requires.1),
-    )
+placed_on_boards-by_board-requires c = (
+  words_known c.args.stock.now c.args.cuts.now c.args.inst [] c.args.c c.requires.0 c.requires.1,
+  omega (arith, words_area c.args.stock.now c.args.cuts.now c.args.inst [] c.args.c c.requires.0 c.requires.1),
+)
 
 pub stock_at-s-requires : goal.stock_at-s-requires
 stock_at-s-requires c =

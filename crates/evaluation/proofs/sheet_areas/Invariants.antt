@@ -1,15 +1,10 @@
 -- The loop's invariant: both areas of the sheets so far.
-use Prim.Native.Nat.{ℕ, ◌-◌, ◌≤◌}
-use native.Mathlib.Omega.{arith}
-use mathlib.Core.Path.{◌≡◌, refl, sym, ap, ◌∙◌}
-use mathlib.Core.List.{List, [], map}
+use Prim.Native.Nat.{◌-◌, ◌≤◌}
+use mathlib.Core.Path.{◌≡◌}
+use mathlib.Core.List.{map}
 use lib.ListN.{length, get_or, take}
-use lib.Seq.{length-take-le}
 use Rattle.model.specs.Types.{stock_area}
 use Rattle.rows.specs.Rows.{stock_at}
-use Rattle.evaluation.proofs.Sheets.{few_insertions, sheet_known, words_known, words_area, areas_of}
-use Rattle.lists.proofs.Arrays.{filled_more}
-use borrow.Author.Rules.{rules}
 use Rattle.evaluation.proofs.sheet_areas.Given as goal
 
 abbrev pub invariant-loop-k : goal.invariant-loop-k

@@ -1,10 +1,7 @@
 -- The loop's invariant: what is left, added to the sum so far, gives the whole sum.
-use Prim.Native.Nat.{ℕ, ◌+◌, ◌-◌, ◌≤◌}
+use Prim.Native.Nat.{ℕ}
 use native.Mathlib.Omega.{arith}
-use mathlib.Core.Path.{◌≡◌}
 use mathlib.Core.List.{List}
-use lib.ListN.{length, drop}
-use Rattle.lists.specs.Base.{sum}
 use Rattle.lists.proofs.Arrays.{sum_step, sum_end}
 use borrow.Author.Rules.{rules}
 use Rattle.evaluation.proofs.sum_areas.Goals as goal

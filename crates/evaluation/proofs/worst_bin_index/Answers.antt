@@ -1,6 +1,5 @@
 -- `evaluation::worst_bin_index` meets its contract.
 use Rattle.evaluation.proofs.BestIndex.{worst_index}
-use borrow.Author.Rules.{rules}
 use Rattle.evaluation.proofs.worst_bin_index.Goals as goal
 
 pub returns : goal.returns

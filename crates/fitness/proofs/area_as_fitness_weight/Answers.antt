@@ -1,5 +1,4 @@
 -- The nearest f64.
-use Rattle.std.proofs.Common.{rules}
 use Rattle.model.specs.Fitness.{weight}
 use Rattle.fitness.proofs.area_as_fitness_weight.Goals as goal
 

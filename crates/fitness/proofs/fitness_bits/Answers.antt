@@ -1,6 +1,6 @@
 -- The fitness is no NaN, since it is a number from 0 to 1.
-use Rattle.std.proofs.Common.{ℕ, not, T, List, take, sym, ap, subst, rules}
-use lib.Ieee.{Float, binary64, is_nan, to_bits}
+use Rattle.std.proofs.Common.{ℕ, not, T, List, take, sym, subst}
+use lib.Ieee.{Float, is_nan}
 use Rattle.fitness.proofs.Bounds.{fitness_number}
 use Rattle.fitness.proofs.fitness_bits.Goals as goal
 

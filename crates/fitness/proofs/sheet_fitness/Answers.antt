@@ -1,5 +1,5 @@
 -- Each branch is the one that the definition's test takes.
-use Rattle.std.proofs.Common.{ap₂, rules, eq-eqb, ne_eqb}
+use Rattle.std.proofs.Common.{ap₂, eq-eqb, ne_eqb}
 use lib.Ieee.{binary64, div, of_bits}
 use Rattle.fitness.specs.Areas.{share_of}
 use Rattle.fitness.proofs.sheet_fitness.Goals as goal

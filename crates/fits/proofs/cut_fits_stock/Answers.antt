@@ -1,7 +1,6 @@
 -- `fits::cut_fits_stock` meets its contract: some fit is there exactly if some way is open.
 use mathlib.Core.Path.{◌∙◌}
 use Rattle.fits.proofs.Orientations.{fits_stock}
-use borrow.Author.Rules.{rules}
 use Rattle.fits.proofs.cut_fits_stock.Goals as goal
 
 pub returns : goal.returns

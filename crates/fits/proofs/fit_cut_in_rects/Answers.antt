@@ -1,7 +1,6 @@
 -- `fits::fit_cut_in_rects` meets its contract: the ways first, then the free rectangle.
 use mathlib.Core.Path.{◌∙◌}
 use Rattle.fits.proofs.Orientations.{fits_by_ways_all}
-use borrow.Author.Rules.{rules}
 use Rattle.fits.proofs.fit_cut_in_rects.Goals as goal
 
 pub returns : goal.returns

@@ -1,6 +1,5 @@
 -- `fits::fits_by_ways` meets its contract: the preference orders the two ways.
 use Rattle.fits.specs.ByWays.{lies_upright, lies_rotated, fits_by_ways}
-use borrow.Author.Rules.{rules}
 use Rattle.fits.proofs.fits_by_ways.Goals as goal
 
 pub returns-in-PreferUpright : goal.returns-in-PreferUpright

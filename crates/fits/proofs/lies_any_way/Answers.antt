@@ -1,7 +1,6 @@
 -- `fits::lies_any_way` meets its contract: upright, or else turned.
 use mathlib.Core.Path.{sym, ◌∙◌}
 use Rattle.fits.specs.ByWays.{lies_upright, lies_rotated, lies_any_way}
-use borrow.Author.Rules.{rules}
 use Rattle.fits.proofs.lies_any_way.Goals as goal
 
 pub returns-then-lies : goal.returns-then-lies

@@ -1,7 +1,6 @@
 -- Each branch is the one that the definition's test takes.
 use Rattle.free_leaf.specs.Leaves.{leaf_at}
 use borrow.Author.Tests.{eq-eqb, ne_eqb}
-use borrow.Author.Rules.{rules}
 use Rattle.free_leaf.proofs.leaf_at.Goals as goal
 
 pub returns-then-words-at-ne2 : goal.returns-then-words-at-ne2

@@ -7,7 +7,6 @@ use lib.ListN.{length, take}
 use Rattle.lists.proofs.Maps.{counted}
 use Rattle.lists.proofs.Arrays.{swap_first, swap_length}
 use Rattle.model.specs.Types.{no_rect}
-use borrow.Author.Rules.{rules}
 use Rattle.free_rects.proofs.swap_remove.Goals as goal
 
 pub returns : goal.returns

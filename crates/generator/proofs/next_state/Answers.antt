@@ -1,5 +1,4 @@
 -- `generator::next_state` meets its contract.
-use Rattle.std.proofs.Common.{rules}
 use Rattle.model.specs.TinyPrng.{next_state}
 use Rattle.generator.proofs.next_state.Goals as goal
 

@@ -1,5 +1,5 @@
 -- `generator::value_of` meets its contract.
-use Rattle.std.proofs.Common.{ℕ, ◌*◌, ◌/◌, ◌^◌, ap, ◌∙◌, rules}
+use Rattle.std.proofs.Common.{ℕ, ◌*◌, ◌/◌, ◌^◌, ap, ◌∙◌}
 use lib.Bits.{bit_xor}
 use Rattle.model.specs.TinyPrng.{wrap, value_of}
 use Rattle.generator.proofs.value_of.Goals as goal

@@ -1,6 +1,6 @@
 -- `generator::wrapping_mul_u64` meets its contract.
-use Rattle.std.proofs.Common.{ℕ, ◌+◌, ◌*◌, ◌%◌, ◌^◌, ap, ◌∙◌, arith, rules}
-use Rattle.generator.proofs.Halves.{product, low_product}
+use Rattle.std.proofs.Common.{ℕ, ◌+◌, ◌*◌, ◌%◌, ◌^◌, ap, ◌∙◌}
+use Rattle.generator.proofs.Halves.{low_product}
 use Rattle.generator.proofs.wrapping_mul_u64.Goals as goal
 
 pub returns : goal.returns

@@ -1,6 +1,5 @@
 -- One node, the free leaf of the board.
 use Rattle.guide.proofs.Guides.{new_became}
-use borrow.Author.Rules.{rules}
 use Rattle.guide.proofs.new_guide.Goals as goal
 
 pub returns : goal.returns

@@ -1,8 +1,5 @@
 -- No guide after a merge, none where there was none, else the leaf replaced.
-use native.Mathlib.Omega.{arith}
-use Rattle.splice.proofs.Subtrees.{subtree_most}
 use Rattle.guide.proofs.Guides.{merged_none, none_none, split_becomes}
-use borrow.Author.Rules.{rules}
 use Rattle.guide.proofs.next_guide.Goals as goal
 
 pub returns-then-merged : goal.returns-then-merged

@@ -1,6 +1,5 @@
 -- The leaf found is the one that the definition replaces; where none is found, it replaces none.
 use Rattle.guide.proofs.Guides.{guided_fits, guided_formed, found_below, replaces_past, replaces_at}
-use borrow.Author.Rules.{rules}
 use Rattle.guide.proofs.replace_free_leaf.Goals as goal
 
 pub find_free_leaf-found-requires : goal.find_free_leaf-found-requires

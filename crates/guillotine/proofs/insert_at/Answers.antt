@@ -1,9 +1,8 @@
 -- `guillotine::insert_at` meets its contract: with merges by value, else in place.
 use mathlib.Core.Path.{sym, ◌∙◌}
 use native.Mathlib.Omega.{arith}
-use Rattle.guillotine.proofs.Steps.{small_rect, small_parts, unmerged}
+use Rattle.guillotine.proofs.Steps.{small_parts, unmerged}
 use Rattle.rect_words.proofs.Words.{length_rects}
-use borrow.Author.Rules.{rules}
 use Rattle.guillotine.proofs.insert_at.Goals as goal
 
 pub merges_any-requires : goal.merges_any-requires

@@ -1,7 +1,5 @@
 -- `guillotine::insert_merging` meets its contract: the steps of `Steps`, one for each call.
-use native.Mathlib.Omega.{arith}
-use Rattle.guillotine.proofs.Steps.{small_rect, within, room, scannable, replaced}
-use borrow.Author.Rules.{rules}
+use Rattle.guillotine.proofs.Steps.{small_rect, room, scannable, replaced}
 use Rattle.guillotine.proofs.insert_merging.Goals as goal
 
 pub split_free_rect_in_direction-with-requires : goal.split_free_rect_in_direction-with-requires

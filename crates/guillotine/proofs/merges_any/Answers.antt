@@ -6,7 +6,6 @@ use lib.ListN.{length}
 use Rattle.rect_words.specs.SheetWords.{rects_in}
 use Rattle.guillotine.proofs.Touching.{touches_merges}
 use Rattle.rect_words.proofs.Words.{length_rects}
-use borrow.Author.Rules.{rules}
 use Rattle.guillotine.proofs.merges_any.Goals as goal
 
 pub returns-then-touches_others : goal.returns-then-touches_others

@@ -1,9 +1,7 @@
 -- `guillotine::push_rect` meets its contract: a rectangle behind the last.
 use mathlib.Core.Path.{◌∙◌}
 use native.Mathlib.Omega.{arith}
-use lib.ListN.{length-set}
 use Rattle.rect_words.proofs.Words.{push_words}
-use borrow.Author.Rules.{rules}
 use Rattle.guillotine.proofs.push_rect.Goals as goal
 
 pub returns : goal.returns

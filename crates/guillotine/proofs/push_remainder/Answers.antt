@@ -4,7 +4,6 @@ use mathlib.Core.Path.{sym}
 use native.Mathlib.Omega.{arith}
 use Rattle.rect_words.specs.SheetWords.{rects_in}
 use Rattle.rect_words.proofs.Words.{with_same}
-use borrow.Author.Rules.{rules}
 use Rattle.guillotine.proofs.push_remainder.Goals as goal
 
 pub returns-in-Nothing : goal.returns-in-Nothing

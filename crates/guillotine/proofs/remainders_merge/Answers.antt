@@ -4,7 +4,6 @@ use Rattle.lists.specs.Base.{any}
 use Rattle.split.specs.Remainders.{remainder_of}
 use Rattle.guillotine.specs.Insertions.{touches_any}
 use Rattle.guillotine.proofs.Touching.{touches_none, touches_two}
-use borrow.Author.Rules.{rules}
 use Rattle.guillotine.proofs.remainders_merge.Goals as goal
 
 pub returns-in-Nothing : goal.returns-in-Nothing

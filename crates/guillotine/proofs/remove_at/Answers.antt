@@ -2,9 +2,8 @@
 use mathlib.Core.Path.{◌≡◌, ◌∙◌}
 use Prim.Native.Nat.{suc, ◌-◌}
 use native.Mathlib.Omega.{arith}
-use lib.ListN.{get_or, length-set}
+use lib.ListN.{get_or}
 use Rattle.rect_words.proofs.Words.{remove_words}
-use borrow.Author.Rules.{rules}
 use Rattle.guillotine.proofs.remove_at.Goals as goal
 
 pub returns : goal.returns

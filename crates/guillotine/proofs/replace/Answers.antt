@@ -1,6 +1,5 @@
 -- `guillotine::replace` meets its contract: a removal and two pushes in a row.
 use Rattle.guillotine.proofs.Replacing.{ready_first, ready_second, with_both}
-use borrow.Author.Rules.{rules}
 use Rattle.guillotine.proofs.replace.Goals as goal
 
 pub push_remainder-requires : goal.push_remainder-requires

@@ -11,7 +11,6 @@ use Rattle.guillotine.specs.Insertions.{touches, touches_any}
 use Rattle.rect_words.specs.SheetWords.{rects_in}
 use Rattle.guillotine.proofs.Touching.{touches_one}
 use Rattle.rect_words.proofs.Words.{length_rects}
-use borrow.Author.Rules.{rules}
 use Rattle.guillotine.proofs.touches_others.Goals as goal
 
 pub returns-then-touches_between : goal.returns-then-touches_between

@@ -1,6 +1,5 @@
 -- `guillotine::try_insert` meets its contract: no place, or the insertion at the best place.
 use Rattle.guillotine.proofs.Sheets.{stays, found_at, found_inside, inserts}
-use borrow.Author.Rules.{rules}
 use Rattle.guillotine.proofs.try_insert.Goals as goal
 
 pub returns-in_default : goal.returns-in_default

@@ -1,11 +1,7 @@
 -- `instances::copy_rows` meets its contract: what is left of the rows gives what all of them give.
-use Prim.Native.Nat.{ℕ, ◌+◌, ◌-◌, ◌≤◌}
-use native.Mathlib.Omega.{arith}
-use mathlib.Core.Path.{sym, ap}
-use lib.ListN.{length}
+use Prim.Native.Nat.{◌-◌, ◌≤◌}
 use Rattle.instances.specs.Tables.{row_by}
-use Rattle.instances.proofs.Tables.{Writing, writing_start, writing_room, writing_step, writing_end, length_by, copies_room}
-use borrow.Author.Rules.{rules}
+use Rattle.instances.proofs.Tables.{Writing}
 use Rattle.instances.proofs.copy_rows.Given as goal
 
 abbrev pub invariant-loop-k : goal.invariant-loop-k

@@ -3,7 +3,6 @@ use native.Mathlib.Omega.{arith}
 use lib.Dec.{lit≤}
 use Rattle.project.proofs.Shape.{Shape, shape, passed_formed, passed_long}
 use Rattle.instances.proofs.Held.{cuts_room, cuts_done}
-use borrow.Author.Rules.{rules}
 use Rattle.instances.proofs.cut_table.Goals as goal
 
 pub cuts_start-start-requires : goal.cuts_start-start-requires

@@ -3,7 +3,6 @@ use native.Mathlib.Omega.{arith}
 use lib.Dec.{lit≤}
 use Rattle.project.proofs.Shape.{Shape, shape, passed_formed, passed_long}
 use Rattle.instances.proofs.Held.{stock_few_lem, stock_room_lem, stock_done}
-use borrow.Author.Rules.{rules}
 use Rattle.instances.proofs.stock_table.Goals as goal
 
 pub stock_records-n-requires : goal.stock_records-n-requires

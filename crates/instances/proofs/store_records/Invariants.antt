@@ -1,13 +1,8 @@
 -- `instances::store_records` meets its contract: what is left of the rows gives what all of them give.
-use Prim.Native.Nat.{◌+◌, ◌-◌, ◌≤◌}
-use mathlib.Core.Path.{sym, ap, ◌∙◌, subst}
-use lib.ListN.{length}
-use Rattle.model.specs.Project.{Piece}
+use Prim.Native.Nat.{◌-◌, ◌≤◌}
 use Rattle.project.specs.Records.{record_at}
 use Rattle.instances.specs.Tables.{rows_of}
-use Rattle.instances.proofs.Tables.{Writing, writing_start, writing_room, writing_step, writing_end, records_room, records_end}
-use Rattle.lists.specs.Parts.{patch}
-use borrow.Author.Rules.{rules}
+use Rattle.instances.proofs.Tables.{Writing}
 use Rattle.instances.proofs.store_records.Given as goal
 
 abbrev pub invariant-loop-i : goal.invariant-loop-i

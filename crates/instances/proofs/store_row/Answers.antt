@@ -7,10 +7,9 @@ use lib.ListN.{length, set}
 use Rattle.model.specs.Project.{Piece}
 use Rattle.project.specs.Records.{piece_of}
 use Rattle.instances.specs.Tables.{words_of}
-use Rattle.instances.proofs.Tables.{least_words, stock_row_lem, cut_row_lem}
+use Rattle.instances.proofs.Tables.{cut_row_lem}
 use Rattle.lists.proofs.Parts.{store_behind}
 use Rattle.lists.specs.Parts.{patch}
-use borrow.Author.Rules.{rules}
 use Rattle.instances.proofs.store_row.Goals as goal
 
 pub returns-in-Cut : goal.returns-in-Cut

@@ -3,7 +3,6 @@ use mathlib.Core.Path.{refl}
 use mathlib.Core.List.{[], ◌∷◌}
 use native.Mathlib.Omega.{arith}
 use Rattle.lists.proofs.Parts.{then_patch}
-use borrow.Author.Rules.{rules}
 use Rattle.instances.proofs.store_six.Goals as goal
 
 pub returns : goal.returns

@@ -1,42 +1,38 @@
 -- `merging::find_pair` meets its contract: what is left to scan, from here, finds what the whole scan finds. The measures are what is left of the two loops.
 use mathlib.Core.Option.{none, some}
-use mathlib.Core.List.{List}
-use mathlib.Core.Path.{◌≡◌, refl, sym, ap, ◌∙◌}
-use Prim.Native.Nat.{ℕ, ◌+◌, ◌-◌, ◌≤◌, ◌<◌}
+use mathlib.Core.Path.{◌≡◌, sym, ap, ◌∙◌}
 use native.Mathlib.Omega.{arith}
-use lib.ListN.{length, take, drop, get_or}
-use Rattle.lists.specs.Base.{◌<|>◌}
+use lib.ListN.{length, get_or}
 use Rattle.lists.proofs.Maps.{counted}
-use Rattle.model.specs.Merge.{merge_adjacent_rects, find_right, find_pair, first_pair}
+use Rattle.model.specs.Merge.{merge_adjacent_rects}
 use Rattle.model.specs.Types.{no_rect}
-use Rattle.model.specs.declared.Rect.{Rect}
 use Rattle.adjacent.specs.Merged.{merged_of}
 use Rattle.merging.specs.Merging.{pair_of}
 use Rattle.split.specs.Bounds.{Small}
-use Rattle.merging.specs.declared.FoundPair.TheVariants.{Nothing}
 use Rattle.merging.proofs.Scan.{all_at, row_start, row_fresh, row_skip, row_hit, row_end, pair_end}
-use borrow.Author.Rules.{rules}
 use Rattle.merging.proofs.find_pair.Goals as goal
 
 pub loop-right-init : goal.loop-right-init
-loop-right-init c =
-    (
-      c.outer-test.true,
-      c.outer.invariant.1,
-      rw (c.first_right-right.ensures, ← row_fresh c.args.free.rects c.args.free.count ((let room : length c.args.free.rects ≡ 65 = search counted in
-    omega (arith, c.requires.room))) c.args.kerf_width c.args.fresh c.outer.left c.requires.apart c.outer-test.true, ← row_start c.args.free.rects c.args.free.count ((let room : length c.args.free.rects ≡ 65 = search counted in
-    omega (arith, c.requires.room))) c.args.kerf_width c.outer.left c.outer-test.true) c.outer.invariant.2,
-    )
+loop-right-init c = (
+  c.outer-test.true,
+  c.outer.invariant.1,
+  rw (
+    c.first_right-right.ensures,
+    ← row_fresh c.args.free.rects c.args.free.count ((let room : length c.args.free.rects ≡ 65 = search counted in
+        omega (arith, c.requires.room))) c.args.kerf_width c.args.fresh c.outer.left c.requires.apart c.outer-test.true,
+    ← row_start c.args.free.rects c.args.free.count ((let room : length c.args.free.rects ≡ 65 = search counted in
+        omega (arith, c.requires.room))) c.args.kerf_width c.outer.left c.outer-test.true,
+  ) c.outer.invariant.2,
+)
 
 pub merge_adjacent_rects-merged-requires : goal.merge_adjacent_rects-merged-requires
-merge_adjacent_rects-merged-requires c =
-    (
-      all_at c.args.free.rects c.args.free.count ((let room : length c.args.free.rects ≡ 65 = search counted in
-    omega (arith, c.requires.room))) Small c.outer.left c.requires.small c.outer-test.true,
-      all_at c.args.free.rects c.args.free.count ((let room : length c.args.free.rects ≡ 65 = search counted in
-    omega (arith, c.requires.room))) Small c.loop-right.right c.requires.small c.loop-right-test.true,
-      c.requires.thin,
-    )
+merge_adjacent_rects-merged-requires c = (
+  all_at c.args.free.rects c.args.free.count ((let room : length c.args.free.rects ≡ 65 = search counted in
+      omega (arith, c.requires.room))) Small c.outer.left c.requires.small c.outer-test.true,
+  all_at c.args.free.rects c.args.free.count ((let room : length c.args.free.rects ≡ 65 = search counted in
+      omega (arith, c.requires.room))) Small c.loop-right.right c.requires.small c.loop-right-test.true,
+  c.requires.thin,
+)
 
 pub loop-right-preserved : goal.loop-right-preserved
 loop-right-preserved c =
@@ -47,7 +43,7 @@ loop-right-preserved c =
       c.loop-right.invariant.0,
       c.loop-right.invariant.1,
       rw (row_skip c.args.free.rects c.args.free.count ((let room : length c.args.free.rects ≡ 65 = search counted in
-    omega (arith, c.requires.room))) c.args.kerf_width left c.outer.left c.loop-right.right c.loop-right-test.true miss) at c.loop-right.invariant.2,
+          omega (arith, c.requires.room))) c.args.kerf_width left c.outer.left c.loop-right.right c.loop-right-test.true miss) at c.loop-right.invariant.2,
     )
 
 pub outer-preserved : goal.outer-preserved
@@ -56,7 +52,7 @@ outer-preserved c =
       c.outer.invariant.0,
       c.loop-right.invariant.1,
       rw (row_end c.args.free.rects c.args.free.count ((let room : length c.args.free.rects ≡ 65 = search counted in
-    omega (arith, c.requires.room))) c.args.kerf_width left c.outer.left c.loop-right.right c.loop-right-test.false) at c.loop-right.invariant.2,
+          omega (arith, c.requires.room))) c.args.kerf_width left c.outer.left c.loop-right.right c.loop-right-test.false) at c.loop-right.invariant.2,
     )
 
 pub returns-after-outer : goal.returns-after-outer

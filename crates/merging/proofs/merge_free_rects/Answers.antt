@@ -1,17 +1,15 @@
 -- `merging::merge_free_rects` meets its contract: the rounds that are left lead where all of them lead, and the flag is set once there was a merge. The measure is the count, which each merge lowers.
-use mathlib.Core.Option.{none, some}
-use mathlib.Core.Bool.{◌||◌}
-use mathlib.Core.Path.{◌≡◌, refl, sym, ap, ◌∙◌}
-use Prim.Native.Nat.{suc, ◌<◌}
+use mathlib.Core.Option.{none}
+use mathlib.Core.Path.{◌≡◌, sym, ap, ◌∙◌}
+use Prim.Native.Nat.{suc}
 use native.Mathlib.Omega.{arith}
 use lib.ListN.{length}
 use Rattle.lists.proofs.Maps.{counted}
-use Rattle.model.specs.Merge.{Pair, first_pair, merge_rounds, merges_any}
-use Rattle.merging.specs.Merging.{pair_of, Scannable}
+use Rattle.model.specs.Merge.{first_pair}
+use Rattle.merging.specs.Merging.{pair_of}
 use Rattle.free_rects.specs.FreeList.{rects_of}
-use Rattle.merging.proofs.Rounds.{Turn, found, turn, rounds_on, flag_on, merged_all}
+use Rattle.merging.proofs.Rounds.{found, turn, rounds_on, flag_on, merged_all}
 use Rattle.free_rects.proofs.Splits.{length_rects}
-use borrow.Author.Rules.{rules}
 use Rattle.merging.proofs.merge_free_rects.Goals as goal
 
 pub returns-in_default : goal.returns-in_default

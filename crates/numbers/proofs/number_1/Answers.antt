@@ -1,7 +1,6 @@
 -- `numbers::number_1` meets its contract.
 use mathlib.Core.Path.{◌∙◌}
 use Rattle.numbers.proofs.Numbers.{number_1}
-use borrow.Author.Rules.{rules}
 use Rattle.numbers.proofs.number_1.Goals as goal
 
 pub returns : goal.returns

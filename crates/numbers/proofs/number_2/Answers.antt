@@ -1,7 +1,6 @@
 -- `numbers::number_2` meets its contract.
 use native.Mathlib.Omega.{arith}
 use Rattle.numbers.proofs.Numbers.{number_2}
-use borrow.Author.Rules.{rules}
 use Rattle.numbers.proofs.number_2.Goals as goal
 
 pub returns : goal.returns

@@ -1,7 +1,6 @@
 -- `numbers::number_4` meets its contract.
 use mathlib.Core.Path.{◌∙◌}
 use Rattle.numbers.proofs.Numbers.{number_4}
-use borrow.Author.Rules.{rules}
 use Rattle.numbers.proofs.number_4.Goals as goal
 
 pub returns : goal.returns

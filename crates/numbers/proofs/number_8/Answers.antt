@@ -2,7 +2,6 @@
 use Prim.Native.Nat.{ℕ, ◌+◌, ◌*◌, ◌^◌}
 use mathlib.Core.Path.{ap₂, ◌∙◌}
 use Rattle.numbers.proofs.Numbers.{number_8}
-use borrow.Author.Rules.{rules}
 use Rattle.numbers.proofs.number_8.Goals as goal
 
 pub returns : goal.returns

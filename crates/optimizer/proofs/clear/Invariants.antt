@@ -1,13 +1,7 @@
 -- `optimizer::clear` meets its contract: after i turns the first i words are zero.
-use mathlib.Core.Path.{◌≡◌, ◌∙◌, ap}
-use mathlib.Core.List.{List}
-use Prim.Native.Nat.{ℕ, ◌≤◌, ◌-◌}
-use native.Mathlib.Omega.{arith}
-use lib.ListN.{length, set}
+use mathlib.Core.Path.{◌≡◌}
+use Prim.Native.Nat.{◌≤◌, ◌-◌}
 use Rattle.model.specs.Outcome.{least_workspace, cleared}
-use Rattle.model.proofs.Memory.{length_cleared}
-use Rattle.optimizer.proofs.Clearing.{cleared_none, cleared_more}
-use borrow.Author.Rules.{rules}
 use Rattle.optimizer.proofs.clear.Given as goal
 
 abbrev pub invariant-loop-i : goal.invariant-loop-i

@@ -14,21 +14,19 @@ winner-found-requires c =
     (c.requires.0, c.heuristic_variants-rows.ensures.1, few.0, few.1, omega (arith, c.requires.1), search rules)
 
 pub returns-then-found : goal.returns-then-found
-returns-then-found c =
-    (
-      record {
-        ends = (
-          candidate_plan (candidate_in (instance_in c.args.stock.now c.args.cuts.now c.args.inst) c.winner-found.result.candidate),
-          winner_planned (instance_in c.args.stock.now c.args.cuts.now c.args.inst) _ _ c.args.effort c.heuristic_variants-rows.ensures.0 c.search_numbers-numbers.ensures c.requires.3 _ (c.winner-found.ensures.0.is c.if-found.true),
-          c.write_plan.ensures.memory,
-        );
-      },
-      behind_cleared _ _ c.winner-found.ensures.1,
-    )
+returns-then-found c = (
+  record {
+    ends = (
+      candidate_plan (candidate_in (instance_in c.args.stock.now c.args.cuts.now c.args.inst) c.winner-found.result.candidate),
+      winner_planned (instance_in c.args.stock.now c.args.cuts.now c.args.inst) _ _ c.args.effort c.heuristic_variants-rows.ensures.0 c.search_numbers-numbers.ensures c.requires.3 _ (c.winner-found.ensures.0.is c.if-found.true),
+      c.write_plan.ensures.memory,
+    );
+  },
+  behind_cleared _ _ c.winner-found.ensures.1,
+)
 
 pub returns : goal.returns
-returns c =
-    (
-      record { ends = (winner_missing (instance_in c.args.stock.now c.args.cuts.now c.args.inst) _ _ c.args.effort c.heuristic_variants-rows.ensures.0 c.search_numbers-numbers.ensures c.requires.3 (none_by _ (sym c.winner-found.ensures.0.found ∙ c.if-found.false)), refl) },
-      behind_cleared _ _ c.winner-found.ensures.1,
-    )
+returns c = (
+  record { ends = (winner_missing (instance_in c.args.stock.now c.args.cuts.now c.args.inst) _ _ c.args.effort c.heuristic_variants-rows.ensures.0 c.search_numbers-numbers.ensures c.requires.3 (none_by _ (sym c.winner-found.ensures.0.found ∙ c.if-found.false)), refl) },
+  behind_cleared _ _ c.winner-found.ensures.1,
+)

@@ -4,7 +4,6 @@ use mathlib.Core.Logic.{inl, inr}
 use mathlib.Core.Option.{some}
 use Rattle.refusals.specs.Answers.{refusal_of}
 use Rattle.optimizer.proofs.Ends.{end_small, end_file}
-use borrow.Author.Rules.{rules}
 use Rattle.optimizer.proofs.optimize.Goals as goal
 
 pub returns-then-workspace-lt-WORKSPACE : goal.returns-then-workspace-lt-WORKSPACE

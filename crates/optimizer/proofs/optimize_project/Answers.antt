@@ -12,7 +12,6 @@ use Rattle.project.proofs.Shape.{passed_long}
 use Rattle.optimizer.specs.Promise.{Promise}
 use Rattle.optimizer.proofs.Ends.{end_empty, end_search, promise_as}
 use Rattle.lists.proofs.Arrays.{length_zero, not_empty}
-use borrow.Author.Rules.{rules}
 use Rattle.optimizer.proofs.optimize_project.Goals as goal
 
 pub layout_kind-layout-requires : goal.layout_kind-layout-requires

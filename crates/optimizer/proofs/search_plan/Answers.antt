@@ -4,7 +4,6 @@ use Rattle.model.specs.Search.{search_numbers, heuristic_variants}
 use Rattle.prefilter.specs.Rows.{refusal_of}
 use Rattle.candidate.specs.Stands.{instance_in}
 use Rattle.optimizer.proofs.Ends.{searched_refused}
-use borrow.Author.Rules.{rules}
 use Rattle.optimizer.proofs.search_plan.Goals as goal
 
 pub returns-in-CutFitsNoStock : goal.returns-in-CutFitsNoStock

@@ -1,7 +1,6 @@
 -- `patterns::may_rotate` meets its contract: the tests of the source that do not read the free rectangle.
 use mathlib.Core.Path.{sym, ◌∙◌}
 use Rattle.patterns.specs.Orientation.{ways_to_lie}
-use borrow.Author.Rules.{rules}
 use Rattle.patterns.proofs.may_rotate.Goals as goal
 
 pub returns-then-turning_matters : goal.returns-then-turning_matters

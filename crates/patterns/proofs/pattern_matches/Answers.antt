@@ -1,7 +1,6 @@
 -- `patterns::pattern_matches` meets its contract: the three tests in the order of the source.
 use mathlib.Core.Path.{sym, ◌∙◌}
 use Rattle.model.specs.Fit.{pattern_matches}
-use borrow.Author.Rules.{rules}
 use Rattle.patterns.proofs.pattern_matches.Goals as goal
 
 pub returns-then-same_pattern : goal.returns-then-same_pattern

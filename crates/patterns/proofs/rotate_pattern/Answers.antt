@@ -1,6 +1,5 @@
 -- `patterns::rotate_pattern` meets its contract: one answer a pattern.
 use Rattle.model.specs.Fit.{rotate_pattern}
-use borrow.Author.Rules.{rules}
 use Rattle.patterns.proofs.rotate_pattern.Goals as goal
 
 pub returns-in-None : goal.returns-in-None

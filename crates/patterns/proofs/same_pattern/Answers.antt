@@ -1,6 +1,5 @@
 -- `patterns::same_pattern` meets its contract: two patterns are the same if their codes are.
 use Rattle.model.specs.Fit.{same_pattern}
-use borrow.Author.Rules.{rules}
 use Rattle.patterns.proofs.same_pattern.Goals as goal
 
 pub returns : goal.returns

@@ -2,7 +2,6 @@
 use mathlib.Core.Path.{sym, ◌∙◌}
 use Rattle.model.specs.Fit.{turning_matters}
 use borrow.Author.Tests.{eq-eqb, ne_eqb}
-use borrow.Author.Rules.{rules}
 use Rattle.patterns.proofs.turning_matters.Goals as goal
 
 pub returns-then-same_pattern : goal.returns-then-same_pattern

@@ -1,6 +1,5 @@
 -- `patterns::ways_to_lie` meets its contract: the two ways, each by its test.
 use Rattle.patterns.specs.Orientation.{ways_to_lie}
-use borrow.Author.Rules.{rules}
 use Rattle.patterns.proofs.ways_to_lie.Goals as goal
 
 pub returns : goal.returns

@@ -1,7 +1,5 @@
 -- `placing::first_fit` meets its contract.
-use Prim.Native.Nat.{ℕ, ◌-◌}
-use mathlib.Core.List.{List}
-use Rattle.placing.proofs.Tries.{Tried, tried_none, tried_all, Turn, turn}
+use Rattle.placing.proofs.Tries.{tried_all, turn}
 use borrow.Author.Rules.{rules}
 use Rattle.placing.proofs.first_fit.Goals as goal
 

@@ -1,8 +1,6 @@
 -- `placing::first_fit` meets its contract.
-use Prim.Native.Nat.{ℕ, ◌-◌}
-use mathlib.Core.List.{List}
-use Rattle.placing.proofs.Tries.{Tried, tried_none, tried_all, Turn, turn}
-use borrow.Author.Rules.{rules}
+use Prim.Native.Nat.{◌-◌}
+use Rattle.placing.proofs.Tries.{Tried}
 use Rattle.placing.proofs.first_fit.Given as goal
 
 abbrev pub invariant-loop-j : goal.invariant-loop-j

@@ -1,10 +1,6 @@
 -- `placing::insert_all` meets its contract.
-use Prim.Native.Nat.{◌-◌}
-use lib.ListN.{length}
 use Rattle.candidate.specs.Stands.{instance_in}
-use Rattle.placing.proofs.Remaking.{Remaking, remaking_none, remaking_done, Turn, turn}
-use borrow.Author.Tests.{not-true, not-false}
-use borrow.Author.Rules.{rules}
+use Rattle.placing.proofs.Remaking.{remaking_none, remaking_done, turn}
 use Rattle.placing.proofs.insert_all.Goals as goal
 
 pub loop-i-init : goal.loop-i-init

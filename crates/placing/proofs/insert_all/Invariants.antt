@@ -2,9 +2,7 @@
 use Prim.Native.Nat.{◌-◌}
 use lib.ListN.{length}
 use Rattle.candidate.specs.Stands.{instance_in}
-use Rattle.placing.proofs.Remaking.{Remaking, remaking_none, remaking_done, Turn, turn}
-use borrow.Author.Tests.{not-true, not-false}
-use borrow.Author.Rules.{rules}
+use Rattle.placing.proofs.Remaking.{Remaking}
 use Rattle.placing.proofs.insert_all.Given as goal
 
 abbrev pub invariant-loop-i : goal.invariant-loop-i

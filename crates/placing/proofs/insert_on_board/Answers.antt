@@ -2,14 +2,11 @@
 use Prim.Native.Nat.{◌+◌, ◌-◌, ◌*◌}
 use native.Mathlib.Omega.{arith}
 use mathlib.Core.Path.{◌≡◌, sym, ap}
-use mathlib.Core.Bool.{Bool, true, false}
+use mathlib.Core.Bool.{true, false}
 use Rattle.lists.specs.Base.{is_some}
 use Rattle.guillotine.specs.declared.Inserted.{Inserted}
 use Rattle.guillotine.specs.Insertions.{place_in}
-use Rattle.placing.specs.Fitting.{InsertsOnBoard}
 use Rattle.placing.proofs.OnBoard.{lent_insertable, inserts_on_board}
-use borrow.Rule.Slice.PartMut.{put_mid}
-use borrow.Author.Rules.{rules}
 use Rattle.placing.proofs.insert_on_board.Goals as goal
 
 pub try_insert-inserted-requires : goal.try_insert-inserted-requires

@@ -3,7 +3,6 @@ use Prim.Native.Nat.{◌+◌, ◌-◌, ◌*◌}
 use native.Mathlib.Omega.{arith}
 use mathlib.Core.Path.{◌≡◌}
 use Rattle.placing.proofs.OnBoard.{opens_board}
-use borrow.Author.Rules.{rules}
 use Rattle.placing.proofs.open_board.Goals as goal
 
 pub returns : goal.returns

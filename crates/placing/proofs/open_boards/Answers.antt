@@ -1,9 +1,5 @@
 -- `placing::open_boards` meets its contract.
-use Prim.Native.Nat.{◌-◌, ◌*◌, ◌≤◌}
-use lib.ListN.{length, get_or}
-use Rattle.placing.specs.Rebuilding.{Listed}
-use Rattle.placing.proofs.Opening.{Opening, opening_none, opening_done, board_listed, free_room, opening_next}
-use borrow.Author.Rules.{rules}
+use Rattle.placing.proofs.Opening.{opening_next}
 use Rattle.placing.proofs.open_boards.Goals as goal
 
 pub loop-k-preserved : goal.loop-k-preserved

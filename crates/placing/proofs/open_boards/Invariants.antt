@@ -1,9 +1,7 @@
 -- `placing::open_boards` meets its contract.
-use Prim.Native.Nat.{◌-◌, ◌*◌, ◌≤◌}
-use lib.ListN.{length, get_or}
-use Rattle.placing.specs.Rebuilding.{Listed}
-use Rattle.placing.proofs.Opening.{Opening, opening_none, opening_done, board_listed, free_room, opening_next}
-use borrow.Author.Rules.{rules}
+use Prim.Native.Nat.{◌-◌}
+use lib.ListN.{length}
+use Rattle.placing.proofs.Opening.{Opening}
 use Rattle.placing.proofs.open_boards.Given as goal
 
 abbrev pub invariant-loop-k : goal.invariant-loop-k

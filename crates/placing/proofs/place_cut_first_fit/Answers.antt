@@ -1,6 +1,4 @@
 -- `placing::place_cut_first_fit` meets its contract.
-use mathlib.Core.Path.{◌≡◌}
-use lib.ListN.{length}
 use Rattle.candidate.specs.Stands.{instance_in}
 use Rattle.placing.proofs.NextCut.{sheets_fillable, boards_ok, next_row, placeable, places}
 use borrow.Author.Rules.{rules}
@@ -11,12 +9,11 @@ cut_at-instance-requires c = next_row c.args.stock.now c.args.cuts.now c.args.in
 
 pub first_fit-j-requires : goal.first_fit-j-requires
 unfolding instance_in
-first_fit-j-requires c =
-    (
-      c.requires.1.shown.room,
-      boards_ok c.args.stock.now c.args.cuts.now c.args.inst c.requires.0 c.args.c c.args.free.now c.args.cut c.requires.1,
-      sheets_fillable c.args.stock.now c.args.cuts.now c.args.inst c.requires.0 c.args.c c.args.free.now c.args.cut c.requires.1,
-    )
+first_fit-j-requires c = (
+  c.requires.1.shown.room,
+  boards_ok c.args.stock.now c.args.cuts.now c.args.inst c.requires.0 c.args.c c.args.free.now c.args.cut c.requires.1,
+  sheets_fillable c.args.stock.now c.args.cuts.now c.args.inst c.requires.0 c.args.c c.args.free.now c.args.cut c.requires.1,
+)
 
 pub take_place-requires : goal.take_place-requires
 take_place-requires c = placeable c.args.stock.now c.args.cuts.now c.args.inst c.requires.0 c.args.c c.args.free.now c.args.cut c.requires.1 c.first_fit-j.result

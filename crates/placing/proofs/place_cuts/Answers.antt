@@ -1,9 +1,6 @@
 -- `placing::place_cuts` meets its contract.
-use Prim.Native.Nat.{◌-◌}
-use lib.ListN.{length}
 use Rattle.candidate.specs.Stands.{instance_in}
-use Rattle.placing.proofs.InOrder.{Placing, placing_none, placing_here, placing_next, placing_done}
-use borrow.Author.Rules.{rules}
+use Rattle.placing.proofs.InOrder.{placing_next, placing_done}
 use Rattle.placing.proofs.place_cuts.Goals as goal
 
 pub loop-i-preserved : goal.loop-i-preserved

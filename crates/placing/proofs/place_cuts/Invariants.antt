@@ -2,8 +2,7 @@
 use Prim.Native.Nat.{◌-◌}
 use lib.ListN.{length}
 use Rattle.candidate.specs.Stands.{instance_in}
-use Rattle.placing.proofs.InOrder.{Placing, placing_none, placing_here, placing_next, placing_done}
-use borrow.Author.Rules.{rules}
+use Rattle.placing.proofs.InOrder.{Placing}
 use Rattle.placing.proofs.place_cuts.Given as goal
 
 abbrev pub invariant-loop-i : goal.invariant-loop-i

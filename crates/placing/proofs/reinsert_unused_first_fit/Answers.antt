@@ -1,25 +1,18 @@
 -- `placing::reinsert_unused_first_fit` meets its contract.
-use Prim.Native.Nat.{◌≤◌}
-use native.Mathlib.Omega.{arith}
-use mathlib.Core.Path.{◌≡◌, sym, ◌∙◌}
-use mathlib.Core.List.{[]}
-use lib.ListN.{length}
-use lib.Seq.{length-take-le}
+use mathlib.Core.Path.{◌∙◌}
 use Rattle.candidate.specs.Moves.{without_unused}
 use Rattle.candidate.specs.Stands.{instance_in}
-use Rattle.candidate.proofs.Standing.{few_placed}
 use Rattle.candidate.proofs.Reinsertion.{reinsert_is, reinsert_stands}
 use borrow.Author.Rules.{rules}
 use Rattle.placing.proofs.reinsert_unused_first_fit.Goals as goal
 
 pub place_cuts-requires : goal.place_cuts-requires
 unfolding without_unused
-place_cuts-requires c =
-    (
-      c.requires.0,
-      reinsert_stands (instance_in c.args.stock.now c.args.cuts.now c.args.inst) c.requires.0.ranged c.args.c ((search rules)) c.requires.1,
-      record { room = c.requires.2.room; sheets = c.requires.2.sheets },
-    )
+place_cuts-requires c = (
+  c.requires.0,
+  reinsert_stands (instance_in c.args.stock.now c.args.cuts.now c.args.inst) c.requires.0.ranged c.args.c ((search rules)) c.requires.1,
+  record { room = c.requires.2.room; sheets = c.requires.2.sheets },
+)
 
 pub returns : goal.returns
 unfolding without_unused

@@ -1,6 +1,5 @@
 -- Four words, of which two are the bits of 1.0.
 use Rattle.plan.proofs.Whole.{empty_written}
-use borrow.Author.Rules.{rules}
 use Rattle.plan.proofs.empty_plan.Goals as goal
 
 pub returns : goal.returns

@@ -7,7 +7,6 @@ use mathlib.Core.Path.{sym, ap, ◌∙◌}
 use native.Mathlib.Omega.{arith}
 use Rattle.plan.proofs.Reading.{sheet_none}
 use Rattle.trust.proofs.RoundTrip.{part_there}
-use borrow.Author.Rules.{rules}
 use Rattle.plan.proofs.sheet_words.Goals as goal
 
 pub returns-then-plan-lt4 : goal.returns-then-plan-lt4

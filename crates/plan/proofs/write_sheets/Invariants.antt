@@ -1,19 +1,9 @@
 -- The invariant: the first j sheets are written.
 use Prim.Native.Nat.{◌+◌, ◌-◌, ◌*◌, ◌≤◌}
-use native.Mathlib.Omega.{arith}
-use mathlib.Core.Path.{◌≡◌, refl, sym, ◌∙◌}
-use mathlib.Core.List.{[]}
-use lib.ListN.{length, get_or, take, length-set}
-use lib.Seq.{length-take-le}
-use Rattle.model.specs.Expand.{ProblemInstance}
-use Rattle.model.specs.Plan.{sheet_words}
-use Rattle.candidate.specs.Stands.{instance_in, bin_in, placed_words, candidate_in}
-use Rattle.candidate.proofs.Standing.{few_boards_lem, few_placed}
+use mathlib.Core.Path.{◌≡◌}
+use lib.ListN.{length, take}
+use Rattle.candidate.specs.Stands.{instance_in, candidate_in}
 use Rattle.plan.specs.Sheets.{WritesFrom}
-use Rattle.plan.proofs.Rebuilding.{rebuildable}
-use Rattle.plan.proofs.Entries.{writes_none}
-use Rattle.plan.proofs.Turns.{ahead, turn, all_written}
-use borrow.Author.Rules.{rules}
 use Rattle.plan.proofs.write_sheets.Given as goal
 
 abbrev pub invariant-loop-j : goal.invariant-loop-j

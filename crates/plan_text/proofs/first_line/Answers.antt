@@ -3,7 +3,6 @@ use mathlib.Core.Path.{ap}
 use Rattle.append.specs.Numerals.{hex_of}
 use Rattle.append.proofs.Laws.{appended_then, appended_is}
 use Rattle.plan_text.proofs.Laws.{first_line_lem}
-use borrow.Author.Rules.{rules}
 use Rattle.plan_text.proofs.first_line.Goals as goal
 
 pub returns : goal.returns

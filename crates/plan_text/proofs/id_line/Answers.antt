@@ -2,7 +2,6 @@
 use mathlib.Core.Path.{ap}
 use Rattle.append.proofs.Laws.{appended_then, appended_is}
 use Rattle.plan_text.specs.Text.{field}
-use borrow.Author.Rules.{rules}
 use Rattle.plan_text.proofs.id_line.Goals as goal
 
 pub returns : goal.returns

@@ -2,7 +2,6 @@
 use mathlib.Core.Path.{sym, ◌∙◌}
 use Rattle.append.proofs.Laws.{appended_is}
 use Rattle.plan_text.proofs.Laws.{cut_line, leaf_line, free_line}
-use borrow.Author.Rules.{rules}
 use Rattle.plan_text.proofs.node_line.Goals as goal
 
 pub returns-then-kind-eq0 : goal.returns-then-kind-eq0

@@ -1,7 +1,6 @@
 -- `plan_text::put_field` meets its contract.
 use Rattle.append.proofs.Laws.{appended_then}
 use Rattle.plan_text.specs.Text.{field}
-use borrow.Author.Rules.{rules}
 use Rattle.plan_text.proofs.put_field.Goals as goal
 
 pub returns : goal.returns

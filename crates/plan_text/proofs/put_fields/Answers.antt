@@ -1,11 +1,7 @@
 -- `plan_text::put_fields` meets its contract: the fields passed are in the buffer.
-use Prim.Native.Nat.{◌≤◌, ◌-◌}
 use native.Mathlib.Omega.{arith}
 use mathlib.Core.Path.{◌∙◌}
-use lib.ListN.{length}
-use Rattle.lists.specs.Base.{concat_map, range}
-use Rattle.append.proofs.Laws.{appended_is, appended_begin, appended_next, appended_end}
-use Rattle.append.specs.Appending.{Appended}
+use Rattle.append.proofs.Laws.{appended_is, appended_begin, appended_next}
 use Rattle.plan_text.proofs.Laws.{field_here}
 use Rattle.plan_text.specs.Rows.{field_at}
 use borrow.Author.Rules.{rules}

@@ -1,7 +1,6 @@
 -- `plan_text::put_plan` meets its contract.
 use Rattle.append.proofs.Laws.{appended_front, appended_then}
 use Rattle.plan_text.specs.Text.{plan_text}
-use borrow.Author.Rules.{rules}
 use Rattle.plan_text.proofs.put_plan.Goals as goal
 
 pub returns : goal.returns

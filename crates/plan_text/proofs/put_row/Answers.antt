@@ -3,7 +3,6 @@ use mathlib.Core.Path.{◌∙◌, ap, sym}
 use Rattle.append.proofs.Laws.{appended_is}
 use Rattle.plan_text.proofs.Laws.{piece_line_lem, waste_line_lem}
 use Rattle.plan_text.specs.Rows.{row_at}
-use borrow.Author.Rules.{rules}
 use Rattle.plan_text.proofs.put_row.Goals as goal
 
 pub returns-in-Piece : goal.returns-in-Piece

@@ -1,12 +1,9 @@
 -- `plan_text::put_rows` meets its contract: the rows passed are in the buffer, and a full buffer keeps what it has.
 use Prim.Native.Nat.{◌≤◌, ◌-◌}
-use native.Mathlib.Omega.{arith}
 use lib.ListN.{length}
 use Rattle.lists.specs.Base.{concat_map, range}
 use Rattle.append.specs.Appending.{Appended}
-use Rattle.append.proofs.Laws.{appended_begin, appended_next, appended_stop, appended_end}
 use Rattle.plan_text.specs.Rows.{row_at}
-use borrow.Author.Rules.{rules}
 use Rattle.plan_text.proofs.put_rows.Given as goal
 
 abbrev pub invariant-loop-k : goal.invariant-loop-k

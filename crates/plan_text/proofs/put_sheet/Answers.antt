@@ -1,7 +1,6 @@
 -- `plan_text::put_sheet` meets its contract: the parts of a body one after the other.
 use Rattle.append.proofs.Laws.{appended_then, appended_is}
 use Rattle.plan_text.proofs.Laws.{sheet_text_lem}
-use borrow.Author.Rules.{rules}
 use Rattle.plan_text.proofs.put_sheet.Goals as goal
 
 pub returns : goal.returns

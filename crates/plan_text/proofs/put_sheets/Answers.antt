@@ -1,9 +1,5 @@
 -- `plan_text::put_sheets` meets its contract: the sheets passed are in the buffer, and a full buffer keeps what it has.
-use Prim.Native.Nat.{◌≤◌, ◌-◌}
 use native.Mathlib.Omega.{arith}
-use lib.ListN.{length}
-use Rattle.lists.specs.Base.{concat_map, range}
-use Rattle.append.specs.Appending.{Appended}
 use Rattle.append.proofs.Laws.{appended_begin, appended_next, appended_stop, appended_end, appended_is}
 use Rattle.plan_text.specs.Rows.{sheet_at}
 use Rattle.plan_text.proofs.Laws.{sheet_here, sheets_text}

@@ -1,6 +1,5 @@
 -- `plan_text::word_line` meets its contract.
 use Rattle.append.proofs.Laws.{appended_then}
-use borrow.Author.Rules.{rules}
 use Rattle.plan_text.proofs.word_line.Goals as goal
 
 pub returns : goal.returns

@@ -4,7 +4,6 @@ use mathlib.Core.List.{List}
 use Prim.Native.Nat.{ℕ}
 use Rattle.plan_words.proofs.Joined.{ten, head_row}
 use Rattle.lists.specs.Parts.{patch}
-use borrow.Author.Rules.{rules}
 use Rattle.plan_words.proofs.put_head.Goals as goal
 
 pub returns : goal.returns

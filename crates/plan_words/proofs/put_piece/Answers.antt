@@ -2,10 +2,8 @@
 use mathlib.Core.Path.{ap, ◌∙◌}
 use mathlib.Core.List.{List}
 use Prim.Native.Nat.{ℕ}
-use lib.ListN.{length-set}
 use Rattle.plan_words.proofs.Joined.{nine, piece_row}
 use Rattle.lists.specs.Parts.{patch}
-use borrow.Author.Rules.{rules}
 use Rattle.plan_words.proofs.put_piece.Goals as goal
 
 pub returns : goal.returns

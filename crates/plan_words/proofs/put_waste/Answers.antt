@@ -8,7 +8,6 @@ use lib.Seq.{take_all}
 use Rattle.lists.specs.Parts.{patch}
 use Rattle.rect_words.proofs.Words.{length_rects}
 use Rattle.plan_words.proofs.Waste.{waste_words}
-use borrow.Author.Rules.{rules}
 use Rattle.plan_words.proofs.put_waste.Goals as goal
 
 pub returns : goal.returns

@@ -1,12 +1,11 @@
 -- `prefilter::all_fit` meets its contract: every cut before the present one fits a board.
-use Prim.Native.Nat.{ℕ, ◌-◌, ◌≤◌}
-use mathlib.Core.Path.{◌≡◌, sym, ap, ◌∙◌}
-use mathlib.Core.List.{List, map}
+use Prim.Native.Nat.{◌-◌, ◌≤◌}
+use mathlib.Core.Path.{◌≡◌}
+use mathlib.Core.List.{map}
 use Rattle.lists.specs.Base.{all, range}
 use Rattle.rows.specs.Rows.{cut_at}
 use Rattle.prefilter.specs.Rows.{fits_any}
-use Rattle.prefilter.proofs.Left.{left, left_all, all_hit, all_miss, all_none, not-true, not-false}
-use borrow.Author.Rules.{rules}
+use Rattle.prefilter.proofs.Left.{left}
 use Rattle.prefilter.proofs.all_fit.Given as goal
 
 abbrev pub invariant-loop-i : goal.invariant-loop-i

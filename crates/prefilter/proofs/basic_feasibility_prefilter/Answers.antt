@@ -1,11 +1,8 @@
 -- `prefilter::basic_feasibility_prefilter` meets its contract: by its two tests.
-use mathlib.Core.Path.{◌≡◌, sym, ◌∙◌}
-use mathlib.Core.Bool.{true}
+use mathlib.Core.Path.{sym, ◌∙◌}
 use native.Mathlib.Omega.{arith}
 use lib.Dec.{lit≤}
-use Rattle.prefilter.proofs.Left.{not-true, not-false}
-use Rattle.prefilter.proofs.Fitting.{all_fit, areas_held, refused_15, refused_16, passed}
-use borrow.Author.Rules.{rules}
+use Rattle.prefilter.proofs.Fitting.{areas_held, refused_15, refused_16, passed}
 use Rattle.prefilter.proofs.basic_feasibility_prefilter.Goals as goal
 
 pub returns-then-not-all_fit : goal.returns-then-not-all_fit

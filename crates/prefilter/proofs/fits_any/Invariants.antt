@@ -1,14 +1,12 @@
 -- `prefilter::fits_any` meets its contract: no board before the present one takes the cut.
 use Prim.Native.Nat.{◌-◌, ◌≤◌}
-use mathlib.Core.Path.{◌≡◌, sym, ap, ◌∙◌}
+use mathlib.Core.Path.{◌≡◌}
 use mathlib.Core.List.{map}
 use Rattle.lists.specs.Base.{any}
 use Rattle.model.specs.Fit.{cut_fits_stock}
 use Rattle.rows.specs.Rows.{stock_at}
 use Rattle.prefilter.specs.Rows.{fits_any}
-use Rattle.prefilter.proofs.Fitting.{fits_start}
-use Rattle.prefilter.proofs.Left.{left, any_hit, any_miss, any_none}
-use borrow.Author.Rules.{rules}
+use Rattle.prefilter.proofs.Left.{left}
 use Rattle.prefilter.proofs.fits_any.Given as goal
 
 abbrev pub invariant-loop-i : goal.invariant-loop-i

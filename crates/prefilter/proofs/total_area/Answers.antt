@@ -1,12 +1,8 @@
 -- `prefilter::total_area` meets its contract: the areas so far and those of the rows left are all of them.
-use Prim.Native.Nat.{ℕ, ◌+◌, ◌-◌, ◌*◌, ◌≤◌, ◌<◌, ◌^◌}
-use mathlib.Core.Path.{◌≡◌, ap}
+use Prim.Native.Nat.{◌+◌, ◌<◌, ◌^◌}
 use native.Mathlib.Omega.{arith}
-use lib.ListN.{length}
-use mathlib.Core.List.{List, map}
-use Rattle.lists.specs.Base.{sum, range}
 use Rattle.prefilter.specs.Rows.{row_area}
-use Rattle.prefilter.proofs.Left.{left, left_all, sum_next, sum_none, row_inside}
+use Rattle.prefilter.proofs.Left.{sum_next, sum_none}
 use borrow.Author.Rules.{rules}
 use Rattle.prefilter.proofs.total_area.Goals as goal
 

@@ -1,13 +1,10 @@
 -- `prefilter::total_area` meets its contract: the areas so far and those of the rows left are all of them.
-use Prim.Native.Nat.{ℕ, ◌+◌, ◌-◌, ◌*◌, ◌≤◌, ◌<◌, ◌^◌}
-use mathlib.Core.Path.{◌≡◌, ap}
-use native.Mathlib.Omega.{arith}
-use lib.ListN.{length}
-use mathlib.Core.List.{List, map}
+use Prim.Native.Nat.{◌+◌, ◌-◌, ◌≤◌}
+use mathlib.Core.Path.{◌≡◌}
+use mathlib.Core.List.{map}
 use Rattle.lists.specs.Base.{sum, range}
 use Rattle.prefilter.specs.Rows.{row_area}
-use Rattle.prefilter.proofs.Left.{left, left_all, sum_next, sum_none, row_inside}
-use borrow.Author.Rules.{rules}
+use Rattle.prefilter.proofs.Left.{left}
 use Rattle.prefilter.proofs.total_area.Given as goal
 
 abbrev pub invariant-loop-i : goal.invariant-loop-i

@@ -3,7 +3,6 @@ use mathlib.Core.Path.{sym, ap, ◌∙◌}
 use Rattle.model.specs.Project.{project_of}
 use Rattle.model.specs.Types.{effort_of}
 use Rattle.project.proofs.Shape.{thorough_effort}
-use borrow.Author.Rules.{rules}
 use Rattle.project.proofs.effort.Goals as goal
 
 pub returns-then-code-eq0 : goal.returns-then-code-eq0

@@ -1,6 +1,5 @@
 -- `project::kerf_width` meets its contract.
 use Rattle.model.specs.Project.{project_of}
-use borrow.Author.Rules.{rules}
 use Rattle.project.proofs.kerf_width.Goals as goal
 
 pub returns : goal.returns

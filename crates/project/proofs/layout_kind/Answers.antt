@@ -3,7 +3,6 @@ use mathlib.Core.Path.{sym, ap, ◌∙◌}
 use Rattle.model.specs.Project.{project_of}
 use Rattle.model.specs.Types.{layout_of}
 use Rattle.project.proofs.Shape.{nested_layout}
-use borrow.Author.Rules.{rules}
 use Rattle.project.proofs.layout_kind.Goals as goal
 
 pub returns-then-number_1-eq0 : goal.returns-then-number_1-eq0

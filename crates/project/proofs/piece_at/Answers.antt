@@ -1,6 +1,5 @@
 -- `project::piece_at` meets its contract.
 use Rattle.model.specs.Project.{piece_at}
-use borrow.Author.Rules.{rules}
 use Rattle.project.proofs.piece_at.Goals as goal
 
 pub returns : goal.returns

@@ -1,11 +1,9 @@
 -- `project::total_quantity` meets its contract.
 use Prim.Native.Nat.{◌+◌, ◌-◌, ◌*◌, ◌^◌, ◌≤◌}
-use native.Mathlib.Omega.{arith}
-use mathlib.Core.Path.{◌≡◌, ap}
+use mathlib.Core.Path.{◌≡◌}
 use Rattle.model.specs.Refusal.{total_quantity}
 use Rattle.project.specs.Records.{records_from}
-use Rattle.project.proofs.Records.{left, left_all, total_next, total_none}
-use borrow.Author.Rules.{rules}
+use Rattle.project.proofs.Records.{left}
 use Rattle.project.proofs.total_quantity.Given as goal
 
 abbrev pub invariant-loop-i : goal.invariant-loop-i

@@ -2,7 +2,6 @@
 use mathlib.Core.Path.{ap, ◌∙◌}
 use Rattle.project_line.specs.Lines.{taken_of}
 use Rattle.project_line.proofs.Lines.{choice_taken}
-use borrow.Author.Rules.{rules}
 use Rattle.project_line.proofs.choice_of_two.Goals as goal
 
 pub returns : goal.returns

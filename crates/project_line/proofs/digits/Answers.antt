@@ -1,8 +1,5 @@
 -- `project_line::digits` meets its contract: the digits passed make the number.
-use Prim.Native.Nat.{◌-◌, ◌≤◌}
-use mathlib.Core.Path.{◌≡◌, refl, sym, ap, ◌∙◌}
-use lib.ListN.{length, drop}
-use Rattle.project_line.specs.Words.{read_digits}
+use mathlib.Core.Path.{sym, ap, ◌∙◌}
 use Rattle.project_line.specs.Lines.{found_of}
 use Rattle.project_line.proofs.Words.{number_none, number_some, digit_most, digits_next, digits_stop, digits_end}
 use borrow.Author.Rules.{rules}

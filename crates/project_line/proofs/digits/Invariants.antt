@@ -1,11 +1,8 @@
 -- `project_line::digits` meets its contract: the digits passed make the number.
 use Prim.Native.Nat.{◌-◌, ◌≤◌}
-use mathlib.Core.Path.{◌≡◌, refl, sym, ap, ◌∙◌}
+use mathlib.Core.Path.{◌≡◌}
 use lib.ListN.{length, drop}
 use Rattle.project_line.specs.Words.{read_digits}
-use Rattle.project_line.specs.Lines.{found_of}
-use Rattle.project_line.proofs.Words.{number_none, number_some, digit_most, digits_next, digits_stop, digits_end}
-use borrow.Author.Rules.{rules}
 use Rattle.project_line.proofs.digits.Given as goal
 
 abbrev pub invariant-loop-i : goal.invariant-loop-i

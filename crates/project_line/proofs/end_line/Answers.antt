@@ -1,6 +1,5 @@
 -- `project_line::end_line` meets its contract.
 use Rattle.project_line.proofs.Lines.{ended_more, ended_made}
-use borrow.Author.Rules.{rules}
 use Rattle.project_line.proofs.end_line.Goals as goal
 
 pub returns-then-span : goal.returns-then-span

@@ -3,7 +3,6 @@ use mathlib.Core.Path.{sym, ap, ◌∙◌}
 use lib.ListN.{drop}
 use Rattle.project_line.specs.Lines.{flag_of}
 use Rattle.project_line.proofs.Lines.{taken_got}
-use borrow.Author.Rules.{rules}
 use Rattle.project_line.proofs.flag_at.Goals as goal
 
 pub returns-in-Board : goal.returns-in-Board

@@ -3,7 +3,6 @@ use mathlib.Core.Path.{sym, ◌∙◌}
 use Rattle.project_line.specs.declared.Found.{Found}
 use Rattle.project_line.proofs.Words.{code_hit, code_miss, code_none}
 use Rattle.project_line.proofs.Lines.{choice_taken}
-use borrow.Author.Rules.{rules}
 use Rattle.project_line.proofs.keyword_at.Goals as goal
 
 pub returns-then-same : goal.returns-then-same

@@ -1,7 +1,6 @@
 -- `project_line::keyword_of` meets its contract, a word for each way out.
 use mathlib.Core.Path.{sym, ◌∙◌}
 use Rattle.project_line.proofs.Lines.{says_kerf, says_layout, says_effort, says_unit, says_board, says_panel, says_nothing}
-use borrow.Author.Rules.{rules}
 use Rattle.project_line.proofs.keyword_of.Goals as goal
 
 pub returns-then-same : goal.returns-then-same

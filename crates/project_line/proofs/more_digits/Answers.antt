@@ -2,7 +2,6 @@
 use native.Mathlib.Omega.{arith}
 use mathlib.Core.Path.{sym}
 use Rattle.project_line.proofs.Words.{digit_good, digit_bad}
-use borrow.Author.Rules.{rules}
 use Rattle.project_line.proofs.more_digits.Goals as goal
 
 pub returns-then-byte-lt48 : goal.returns-then-byte-lt48

@@ -1,6 +1,5 @@
 -- `project_line::next_word` meets its contract.
 use Rattle.project_line.proofs.Words.{span_of}
-use borrow.Author.Rules.{rules}
 use Rattle.project_line.proofs.next_word.Goals as goal
 
 pub returns : goal.returns

@@ -1,7 +1,6 @@
 -- `project_line::one_of_three` meets its contract, a word for each way out.
 use mathlib.Core.Path.{sym, ◌∙◌}
 use Rattle.project_line.proofs.Words.{code_hit, code_miss, code_none}
-use borrow.Author.Rules.{rules}
 use Rattle.project_line.proofs.one_of_three.Goals as goal
 
 pub returns-then-same : goal.returns-then-same

@@ -2,7 +2,6 @@
 use mathlib.Core.Path.{sym, ◌∙◌}
 use Rattle.project_line.specs.Lines.{quantity}
 use Rattle.project_line.proofs.Lines.{taken_none, taken_some, taken_got, behind_none, behind_some}
-use borrow.Author.Rules.{rules}
 use Rattle.project_line.proofs.quantity_at.Goals as goal
 
 pub returns-in_default : goal.returns-in_default

@@ -1,7 +1,6 @@
 -- `project_line::read_line` meets its contract.
 use mathlib.Core.Path.{◌∙◌}
 use Rattle.project_line.proofs.Lines.{line_blank, line_body}
-use borrow.Author.Rules.{rules}
 use Rattle.project_line.proofs.read_line.Goals as goal
 
 pub returns-then-start-end : goal.returns-then-start-end

@@ -2,7 +2,6 @@
 use mathlib.Core.Path.{sym, ◌∙◌}
 use Rattle.project_line.specs.Lines.{record_line}
 use Rattle.project_line.proofs.Lines.{taken_none, taken_some, need_none, need_some}
-use borrow.Author.Rules.{rules}
 use Rattle.project_line.proofs.record_line.Goals as goal
 
 pub returns-in_default : goal.returns-in_default

@@ -1,10 +1,8 @@
 -- `project_line::scan` meets its contract: nothing that it passed stops it.
 use Prim.Native.Nat.{◌+◌, ◌-◌, ◌≤◌}
-use mathlib.Core.Path.{◌≡◌, refl, sym, ◌∙◌}
+use mathlib.Core.Path.{◌≡◌}
 use lib.ListN.{length, drop}
 use Rattle.project_line.specs.Words.{stops_at, up_to}
-use Rattle.project_line.proofs.Words.{scan_next, scan_here, scan_end}
-use borrow.Author.Rules.{rules}
 use Rattle.project_line.proofs.scan.Given as goal
 
 abbrev pub invariant-loop-i : goal.invariant-loop-i

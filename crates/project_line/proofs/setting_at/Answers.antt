@@ -2,7 +2,6 @@
 use mathlib.Core.Path.{sym, ap, ◌∙◌}
 use lib.ListN.{drop}
 use Rattle.project_line.specs.Lines.{setting_of}
-use borrow.Author.Rules.{rules}
 use Rattle.project_line.proofs.setting_at.Goals as goal
 
 pub returns-in-Kerf : goal.returns-in-Kerf

@@ -3,7 +3,6 @@ use mathlib.Core.Path.{sym, ap, ◌∙◌}
 use Rattle.project_line.specs.declared.Line.{Line}
 use Rattle.project_line.specs.Lines.{setting_line}
 use Rattle.project_line.proofs.Lines.{taken_none, taken_some, need_none, need_some}
-use borrow.Author.Rules.{rules}
 use Rattle.project_line.proofs.setting_line.Goals as goal
 
 pub returns-in_default : goal.returns-in_default

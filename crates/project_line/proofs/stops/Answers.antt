@@ -1,7 +1,6 @@
 -- `project_line::stops` meets its contract, a test for each end.
 use mathlib.Core.Path.{sym, ◌∙◌}
 use Rattle.project_line.proofs.Words.{stops_line, stops_blank, stops_comment, stops_start}
-use borrow.Author.Rules.{rules}
 use Rattle.project_line.proofs.stops.Goals as goal
 
 pub returns-in-LineEnd : goal.returns-in-LineEnd

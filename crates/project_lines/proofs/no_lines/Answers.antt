@@ -1,6 +1,5 @@
 -- `project_lines::no_lines` meets its contract.
 use Rattle.project_lines.specs.Project.{empty}
-use borrow.Author.Rules.{rules}
 use Rattle.project_lines.proofs.no_lines.Goals as goal
 
 pub returns : goal.returns

@@ -1,10 +1,10 @@
 -- `project_lines::parse` meets its contract: the lines that are left mean what the text means.
-use Prim.Native.Nat.{◌+◌, ◌-◌, ◌≤◌}
+use Prim.Native.Nat.{◌+◌, ◌≤◌}
 use native.Mathlib.Omega.{arith}
 use mathlib.Core.Path.{◌≡◌, sym, ap, ◌∙◌}
 use lib.ListN.{length, drop}
 use Rattle.append.proofs.Laws.{appended_front}
-use Rattle.project_lines.specs.Draft.{Sound, listed_of, verdict_of}
+use Rattle.project_lines.specs.Draft.{listed_of, verdict_of}
 use Rattle.project_lines.specs.Project.{Listed, lines_of, meaning_from, meaning}
 use Rattle.project_lines.proofs.Drafts.{length_rows_of}
 use Rattle.project_lines.proofs.File.{parsing_bad, parsing_file}

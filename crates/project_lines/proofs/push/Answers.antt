@@ -1,6 +1,5 @@
 -- `project_lines::push` meets its contract: room for a row, and none.
 use Rattle.project_lines.proofs.Drafts.{push_room, push_full}
-use borrow.Author.Rules.{rules}
 use Rattle.project_lines.proofs.push.Goals as goal
 
 pub returns-then-count-lt64 : goal.returns-then-count-lt64

@@ -1,7 +1,6 @@
 -- `project_lines::put_contents` meets its contract: the entries one after the other.
 use Rattle.append.proofs.Laws.{appended_then}
 use Rattle.project_lines.specs.Project.{contents_text}
-use borrow.Author.Rules.{rules}
 use Rattle.project_lines.proofs.put_contents.Goals as goal
 
 pub returns : goal.returns

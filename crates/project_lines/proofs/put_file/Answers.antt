@@ -1,12 +1,10 @@
 -- `project_lines::put_file` meets its contract: the parts one after the other.
-use native.Mathlib.Omega.{arith}
 use mathlib.Core.Path.{◌≡◌, sym, ◌∙◌}
 use lib.ListN.{length}
 use Rattle.append.proofs.Laws.{appended_then, appended_is}
 use Rattle.project_lines.specs.Draft.{rows_of}
 use Rattle.project_lines.specs.Project.{file_text, contents_text}
 use Rattle.project_lines.proofs.Drafts.{length_rows_of}
-use borrow.Author.Rules.{rules}
 use Rattle.project_lines.proofs.put_file.Goals as goal
 
 pub returns : goal.returns

@@ -1,13 +1,8 @@
 -- `project_lines::put_rows` meets its contract: the rows passed are in the buffer.
 use Prim.Native.Nat.{◌-◌, ◌≤◌}
-use native.Mathlib.Omega.{arith}
-use mathlib.Core.Path.{◌≡◌, ap}
 use lib.ListN.{length, take}
 use Rattle.append.specs.Appending.{Appended}
-use Rattle.append.proofs.Laws.{appended_none, appended_is}
 use Rattle.project_lines.specs.Project.{rows_text}
-use Rattle.project_lines.proofs.File.{rows_next, rows_none}
-use borrow.Author.Rules.{rules}
 use Rattle.project_lines.proofs.put_rows.Given as goal
 
 abbrev pub invariant-loop-i : goal.invariant-loop-i

@@ -1,7 +1,6 @@
 -- `project_lines::put_settings` meets its contract: the fields one after the other.
 use Rattle.append.proofs.Laws.{appended_then}
 use Rattle.project_lines.specs.Project.{settings_text}
-use borrow.Author.Rules.{rules}
 use Rattle.project_lines.proofs.put_settings.Goals as goal
 
 pub returns : goal.returns

@@ -3,7 +3,6 @@ use mathlib.Core.Path.{ap, sym}
 use Rattle.project_lines.specs.Draft.{listed_of}
 use Rattle.project_lines.specs.Project.{refusal_of}
 use Rattle.project_lines.proofs.Drafts.{board_verdict, panel_verdict}
-use borrow.Author.Rules.{rules}
 use Rattle.project_lines.proofs.verdict_on.Goals as goal
 
 pub returns-in-Blank : goal.returns-in-Blank

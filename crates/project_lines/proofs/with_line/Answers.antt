@@ -3,7 +3,6 @@ use mathlib.Core.Path.{ap, sym}
 use Rattle.project_lines.specs.Draft.{listed_of}
 use Rattle.project_lines.specs.Project.{added}
 use Rattle.project_lines.proofs.Drafts.{kept_same, kept_is}
-use borrow.Author.Rules.{rules}
 use Rattle.project_lines.proofs.with_line.Goals as goal
 
 pub returns-in-Blank : goal.returns-in-Blank

@@ -1,6 +1,5 @@
 -- `project_lines::with_row` meets its contract.
 use Rattle.project_lines.proofs.Drafts.{board_added, panel_added}
-use borrow.Author.Rules.{rules}
 use Rattle.project_lines.proofs.with_row.Goals as goal
 
 pub returns-in-Board : goal.returns-in-Board

@@ -3,7 +3,6 @@ use mathlib.Core.Path.{ap, sym}
 use Rattle.project_lines.specs.Draft.{listed_of}
 use Rattle.project_lines.specs.Project.{set}
 use Rattle.project_lines.proofs.Drafts.{kept_same}
-use borrow.Author.Rules.{rules}
 use Rattle.project_lines.proofs.with_setting.Goals as goal
 
 pub returns-in-Kerf : goal.returns-in-Kerf

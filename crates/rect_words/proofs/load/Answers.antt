@@ -1,12 +1,11 @@
 -- `rect_words::load` meets its contract: the first rectangles of the array are those of the words. The measure is what is left of the count.
-use mathlib.Core.Path.{◌≡◌, refl, sym, ap, ◌∙◌}
-use Prim.Native.Nat.{ℕ, ◌-◌, ◌≤◌, ◌<◌}
+use mathlib.Core.Path.{◌≡◌, sym, ap, ◌∙◌}
+use Prim.Native.Nat.{ℕ, ◌<◌}
 use native.Mathlib.Omega.{arith}
 use lib.Seq.{take_all}
 use lib.ListN.{length, get_or, take, length-set}
 use Rattle.rect_words.specs.SheetWords.{rects_in}
 use Rattle.rect_words.proofs.Words.{length_rects, load_step}
-use borrow.Author.Rules.{rules}
 use Rattle.rect_words.proofs.load.Goals as goal
 
 pub loop-index-preserved : goal.loop-index-preserved

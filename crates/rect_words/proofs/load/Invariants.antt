@@ -1,12 +1,8 @@
 -- `rect_words::load` meets its contract: the first rectangles of the array are those of the words. The measure is what is left of the count.
-use mathlib.Core.Path.{◌≡◌, refl, sym, ap, ◌∙◌}
-use Prim.Native.Nat.{ℕ, ◌-◌, ◌≤◌, ◌<◌}
-use native.Mathlib.Omega.{arith}
-use lib.Seq.{take_all}
-use lib.ListN.{length, get_or, take, length-set}
+use mathlib.Core.Path.{◌≡◌}
+use Prim.Native.Nat.{◌-◌, ◌≤◌}
+use lib.ListN.{length, take}
 use Rattle.rect_words.specs.SheetWords.{rects_in}
-use Rattle.rect_words.proofs.Words.{length_rects, load_step}
-use borrow.Author.Rules.{rules}
 use Rattle.rect_words.proofs.load.Given as goal
 
 abbrev pub invariant-loop-index : goal.invariant-loop-index

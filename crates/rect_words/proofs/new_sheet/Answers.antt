@@ -7,7 +7,6 @@ use lib.ListN.{set, length-set}
 use Rattle.model.specs.Types.{rect}
 use Rattle.rect_words.specs.SheetWords.{put_rect}
 use Rattle.rect_words.proofs.Words.{put_none, put_snoc, put_counted}
-use borrow.Author.Rules.{rules}
 use Rattle.rect_words.proofs.new_sheet.Goals as goal
 
 pub returns : goal.returns

@@ -6,7 +6,6 @@ use native.Mathlib.Omega.{arith}
 use lib.ListN.{take, drop}
 use Rattle.model.specs.Plan.{rect_words}
 use Rattle.rect_words.specs.SheetWords.{put_rect}
-use borrow.Author.Rules.{rules}
 use Rattle.rect_words.proofs.put_rect.Goals as goal
 
 pub returns : goal.returns

@@ -1,12 +1,11 @@
 -- `rect_words::store` meets its contract: the count, then the rectangles.
 use mathlib.Core.Path.{◌≡◌, sym, ◌∙◌}
 use native.Mathlib.Omega.{arith}
-use lib.ListN.{length, length-set}
+use lib.ListN.{length}
 use Rattle.lists.proofs.Maps.{counted}
 use Rattle.free_rects.proofs.Splits.{length_rects}
 use Rattle.free_rects.specs.FreeList.{rects_of}
 use Rattle.rect_words.proofs.Words.{put_counted}
-use borrow.Author.Rules.{rules}
 use Rattle.rect_words.proofs.store.Goals as goal
 
 pub returns : goal.returns

@@ -1,7 +1,7 @@
 -- `rect_words::store_rects` meets its contract: the words are those with the first rectangles replaced. The measure is what is left of the count.
 use mathlib.Core.List.{List}
 use mathlib.Core.Path.{◌≡◌, refl, sym, ap, ◌∙◌}
-use Prim.Native.Nat.{ℕ, ◌-◌, ◌≤◌, ◌<◌}
+use Prim.Native.Nat.{ℕ, ◌≤◌, ◌<◌}
 use native.Mathlib.Omega.{arith}
 use native.Mathlib.Numerals.{add-one}
 use lib.Seq.{take-suc, length-take-le}
@@ -10,7 +10,6 @@ use Rattle.lists.proofs.Maps.{counted}
 use Rattle.model.specs.Types.{no_rect}
 use Rattle.rect_words.specs.SheetWords.{put_rect, put_rects}
 use Rattle.rect_words.proofs.Words.{put_none, put_snoc}
-use borrow.Author.Rules.{rules}
 use Rattle.rect_words.proofs.store_rects.Goals as goal
 
 pub loop-index-init : goal.loop-index-init

@@ -1,16 +1,8 @@
 -- `rect_words::store_rects` meets its contract: the words are those with the first rectangles replaced. The measure is what is left of the count.
-use mathlib.Core.List.{List}
-use mathlib.Core.Path.{◌≡◌, refl, sym, ap, ◌∙◌}
-use Prim.Native.Nat.{ℕ, ◌-◌, ◌≤◌, ◌<◌}
-use native.Mathlib.Omega.{arith}
-use native.Mathlib.Numerals.{add-one}
-use lib.Seq.{take-suc, length-take-le}
-use lib.ListN.{length, get_or, take}
-use Rattle.lists.proofs.Maps.{counted}
-use Rattle.model.specs.Types.{no_rect}
-use Rattle.rect_words.specs.SheetWords.{put_rect, put_rects}
-use Rattle.rect_words.proofs.Words.{put_none, put_snoc}
-use borrow.Author.Rules.{rules}
+use mathlib.Core.Path.{◌≡◌}
+use Prim.Native.Nat.{◌-◌, ◌≤◌}
+use lib.ListN.{length, take}
+use Rattle.rect_words.specs.SheetWords.{put_rects}
 use Rattle.rect_words.proofs.store_rects.Given as goal
 
 abbrev pub invariant-loop-index : goal.invariant-loop-index

@@ -1,6 +1,5 @@
 -- `refusals::bad_settings` meets its contract.
 use Rattle.model.specs.Project.{project_of}
-use borrow.Author.Rules.{rules}
 use Rattle.refusals.proofs.bad_settings.Goals as goal
 
 pub returns : goal.returns

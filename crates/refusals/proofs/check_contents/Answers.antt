@@ -2,7 +2,6 @@
 use mathlib.Core.Path.{sym}
 use Rattle.project.proofs.Shape.{long}
 use Rattle.refusals.proofs.Whole.{project_rows}
-use borrow.Author.Rules.{rules}
 use Rattle.refusals.proofs.check_contents.Goals as goal
 
 pub check_settings-settings-requires : goal.check_settings-settings-requires

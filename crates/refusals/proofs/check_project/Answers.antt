@@ -2,8 +2,6 @@
 use mathlib.Core.Path.{sym, ◌∙◌}
 use Rattle.project.proofs.Shape.{file_refused}
 use Rattle.refusals.proofs.Whole.{file_contents}
-use borrow.Author.Tests.{not-true, not-false}
-use borrow.Author.Rules.{rules}
 use Rattle.refusals.proofs.check_project.Goals as goal
 
 pub returns-then-not-well_formed : goal.returns-then-not-well_formed

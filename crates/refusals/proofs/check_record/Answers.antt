@@ -9,7 +9,6 @@ use Rattle.refusals.specs.Answers.{rule_of}
 use Rattle.project.specs.Records.{piece_of, record_at}
 use Rattle.refusals.specs.Answers.{ids_before}
 use Rattle.refusals.proofs.Checks.{stock_rows, cut_rows}
-use borrow.Author.Rules.{rules}
 use Rattle.refusals.proofs.check_record.Goals as goal
 
 pub returns-in-Stock : goal.returns-in-Stock

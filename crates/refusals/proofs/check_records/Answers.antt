@@ -1,11 +1,7 @@
 -- `refusals::check_records` meets its contract: what is left of the records gives what all of them give.
-use Prim.Native.Nat.{◌-◌, ◌*◌, ◌^◌, ◌≤◌}
-use mathlib.Core.Path.{◌≡◌, sym, ap, ◌∙◌}
-use mathlib.Core.List.{[]}
-use Rattle.model.specs.Refusal.{first_that_applies, record_checks}
+use mathlib.Core.Path.{sym, ap, ◌∙◌}
 use Rattle.refusals.specs.Answers.{refusal_of, rule_of}
-use Rattle.project.specs.Records.{records_from}
-use Rattle.refusals.proofs.Checks.{rest, rest_all, rest_passed, rest_refused, rest_none}
+use Rattle.refusals.proofs.Checks.{rest_all, rest_passed, rest_refused, rest_none}
 use borrow.Author.Rules.{rules}
 use Rattle.refusals.proofs.check_records.Goals as goal
 
@@ -16,12 +12,11 @@ pub returns-in-Refused : goal.returns-in-Refused
 returns-in-Refused c = sym (c.loop-i.invariant.2 ∙ rest_refused c.args.file.now c.args.base c.args.n (rule_of c.args.kind) c.loop-i.i c.loop-i.count _ c.loop-i-test.true (sym (ap refusal_of c.in-Refused.is) ∙ c.check_record-checked.ensures))
 
 pub loop-i-preserved : goal.loop-i-preserved
-loop-i-preserved c =
-    (
-      search rules,
-      search rules,
-      c.loop-i.invariant.2 ∙ rest_passed c.args.file.now c.args.base c.args.n (rule_of c.args.kind) c.loop-i.i c.loop-i.count _ c.loop-i-test.true c.number_4.ensures (sym (ap refusal_of c.in-Passed.is) ∙ c.check_record-checked.ensures),
-    )
+loop-i-preserved c = (
+  search rules,
+  search rules,
+  c.loop-i.invariant.2 ∙ rest_passed c.args.file.now c.args.base c.args.n (rule_of c.args.kind) c.loop-i.i c.loop-i.count _ c.loop-i-test.true c.number_4.ensures (sym (ap refusal_of c.in-Passed.is) ∙ c.check_record-checked.ensures),
+)
 
 pub returns : goal.returns
 returns c = sym (c.loop-i.invariant.2 ∙ rest_none c.args.file.now c.args.base c.args.n (rule_of c.args.kind) c.loop-i.i c.loop-i.count c.loop-i-test.false)

@@ -1,12 +1,11 @@
 -- `refusals::check_records` meets its contract: what is left of the records gives what all of them give.
 use Prim.Native.Nat.{◌-◌, ◌*◌, ◌^◌, ◌≤◌}
-use mathlib.Core.Path.{◌≡◌, sym, ap, ◌∙◌}
+use mathlib.Core.Path.{◌≡◌}
 use mathlib.Core.List.{[]}
 use Rattle.model.specs.Refusal.{first_that_applies, record_checks}
-use Rattle.refusals.specs.Answers.{refusal_of, rule_of}
+use Rattle.refusals.specs.Answers.{rule_of}
 use Rattle.project.specs.Records.{records_from}
-use Rattle.refusals.proofs.Checks.{rest, rest_all, rest_passed, rest_refused, rest_none}
-use borrow.Author.Rules.{rules}
+use Rattle.refusals.proofs.Checks.{rest}
 use Rattle.refusals.proofs.check_records.Given as goal
 
 abbrev pub invariant-loop-i : goal.invariant-loop-i

@@ -1,7 +1,6 @@
 -- `refusals::check_settings` meets its contract.
 use Rattle.model.specs.Project.{project_of}
 use Rattle.refusals.proofs.Checks.{settings_codes, settings_kerf, settings_passed}
-use borrow.Author.Rules.{rules}
 use Rattle.refusals.proofs.check_settings.Goals as goal
 
 pub returns-then-bad_settings : goal.returns-then-bad_settings

@@ -1,9 +1,5 @@
 -- `refusals::id_used` meets its contract: no record from the present number on has the id.
-use Prim.Native.Nat.{◌≤◌}
-use mathlib.Core.Path.{◌≡◌, sym, ◌∙◌}
-use lib.Dec.{eqb}
-use Rattle.lists.specs.Base.{any}
-use Rattle.refusals.specs.Answers.{ids_before}
+use mathlib.Core.Path.{sym, ◌∙◌}
 use Rattle.refusals.proofs.Checks.{id_hit, id_miss, id_none}
 use borrow.Author.Rules.{rules}
 use Rattle.refusals.proofs.id_used.Goals as goal

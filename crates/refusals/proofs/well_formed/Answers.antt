@@ -1,7 +1,6 @@
 -- `refusals::well_formed` meets its contract.
 use Rattle.model.specs.Project.{well_formed}
 use Rattle.refusals.proofs.Checks.{short_file}
-use borrow.Author.Rules.{rules}
 use Rattle.refusals.proofs.well_formed.Goals as goal
 
 pub returns-then-file-lt32 : goal.returns-then-file-lt32

@@ -1,6 +1,5 @@
 -- `rows::cut_at` meets its contract.
 use Rattle.rows.proofs.Rows.{cut_read_lem}
-use borrow.Author.Rules.{rules}
 use Rattle.rows.proofs.cut_at.Goals as goal
 
 pub returns : goal.returns

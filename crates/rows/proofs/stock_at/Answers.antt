@@ -1,6 +1,5 @@
 -- `rows::stock_at` meets its contract.
 use Rattle.rows.proofs.Rows.{stock_read}
-use borrow.Author.Rules.{rules}
 use Rattle.rows.proofs.stock_at.Goals as goal
 
 pub returns : goal.returns

@@ -1,7 +1,6 @@
 -- Each branch is the one that the definition's test takes.
 use Rattle.saw.specs.Saws.{saw_at}
 use borrow.Author.Tests.{eq-eqb, ne_eqb}
-use borrow.Author.Rules.{rules}
 use Rattle.saw.proofs.saw_at.Goals as goal
 
 pub returns-then-words-at-ne0 : goal.returns-then-words-at-ne0

@@ -1,18 +1,7 @@
 -- The invariant: what is left of the nodes, added to the total, gives the whole sum.
-use mathlib.Core.Path.{◌≡◌}
-use mathlib.Core.List.{map}
-use mathlib.Core.Option.{Option}
-use Prim.Native.Nat.{◌+◌, ◌-◌, ◌≤◌}
 use native.Mathlib.Omega.{arith}
-use lib.ListN.{drop}
-use Rattle.lists.specs.Base.{sum}
-use Rattle.model.specs.Guide.{SliceNode}
-use Rattle.model.specs.Plan.{nodes_of, saw_length}
-use Rattle.subtree.specs.Words.{Holds}
-use Rattle.saw.specs.Saws.{saw_of_guide}
 use Rattle.subtree.proofs.Trees.{holds_fits}
 use Rattle.saw.proofs.Saws.{saw_step, saw_end}
-use borrow.Author.Rules.{rules}
 use Rattle.saw.proofs.saw_length.Goals as goal
 
 pub saw_at-total-requires : goal.saw_at-total-requires

@@ -3,16 +3,12 @@ use mathlib.Core.Path.{◌≡◌}
 use mathlib.Core.List.{map}
 use mathlib.Core.Option.{Option}
 use Prim.Native.Nat.{◌+◌, ◌-◌, ◌≤◌}
-use native.Mathlib.Omega.{arith}
 use lib.ListN.{drop}
 use Rattle.lists.specs.Base.{sum}
 use Rattle.model.specs.Guide.{SliceNode}
 use Rattle.model.specs.Plan.{nodes_of, saw_length}
 use Rattle.subtree.specs.Words.{Holds}
 use Rattle.saw.specs.Saws.{saw_of_guide}
-use Rattle.subtree.proofs.Trees.{holds_fits}
-use Rattle.saw.proofs.Saws.{saw_step, saw_end}
-use borrow.Author.Rules.{rules}
 use Rattle.saw.proofs.saw_length.Given as goal
 
 abbrev pub invariant-loop-at : goal.invariant-loop-at

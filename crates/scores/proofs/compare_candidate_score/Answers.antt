@@ -1,5 +1,4 @@
 -- The sheets decide, or are as many.
-use Rattle.std.proofs.Common.{rules}
 use Rattle.scores.proofs.Order.{more_sheets, fewer_sheets}
 use Rattle.scores.proofs.compare_candidate_score.Goals as goal
 

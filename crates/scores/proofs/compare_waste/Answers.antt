@@ -1,5 +1,5 @@
 -- The waste decides, or there is no sheet and so no fitness, or the fitness decides.
-use Rattle.std.proofs.Common.{◌∙◌, arith, rules}
+use Rattle.std.proofs.Common.{◌∙◌, arith}
 use Rattle.scores.proofs.Order.{more_waste, less_waste, no_sheets, by_fitness}
 use Rattle.scores.proofs.compare_waste.Goals as goal
 

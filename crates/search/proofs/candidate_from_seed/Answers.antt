@@ -1,10 +1,8 @@
 -- `search::candidate_from_seed` meets its contract.
 use Prim.Native.Nat.{ℕ}
-use native.Mathlib.Omega.{arith}
 use mathlib.Core.Path.{◌≡◌, sym, ap, subst, subst₂}
 use mathlib.Core.List.{List}
 use lib.ListN.{length, take}
-use lib.Seq.{length-take-le}
 use Rattle.model.specs.Expand.{ProblemInstance}
 use Rattle.candidate.specs.declared.Candidate.{Candidate as Words}
 use Rattle.candidate.specs.Moves.{new_words}
@@ -16,7 +14,6 @@ use Rattle.placing.specs.Placing.{PlacesCuts}
 use Rattle.placing.proofs.Rebuilding.{new_shown}
 use Rattle.seeds.specs.Seeds.{places_of}
 use Rattle.search.proofs.Firsts.{seed_made}
-use borrow.Author.Rules.{rules}
 use Rattle.search.proofs.candidate_from_seed.Goals as goal
 
 pub place_cuts-requires : goal.place_cuts-requires

@@ -1,17 +1,14 @@
 -- `search::crossover_population` meets its contract: the pairs before i have had their children.
-use Prim.Native.Nat.{ℕ, ◌+◌, ◌-◌, ◌≤◌, ◌<◌}
+use Prim.Native.Nat.{ℕ, ◌+◌, ◌<◌}
 use native.Mathlib.Omega.{arith}
-use mathlib.Core.Path.{◌≡◌, refl, sym, ◌∙◌, subst}
+use mathlib.Core.Path.{◌≡◌, sym, ◌∙◌, subst}
 use mathlib.Core.List.{List, []}
 use lib.ListN.{length}
 use Rattle.model.specs.Expand.{ProblemInstance}
 use Rattle.candidate.specs.Stands.{instance_in, Stands}
 use Rattle.candidate.proofs.Instances.{cut_count}
-use Rattle.placing.specs.Blocks.{behind_blocks}
-use Rattle.stored.proofs.Slots.{storable}
 use Rattle.stored.proofs.Populations.{standing_at}
-use Rattle.search.proofs.Pushing.{CrossedTo, crossed_none, parent_fits, parent_loaded, crossed_step, crossed_all}
-use borrow.Author.Rules.{rules}
+use Rattle.search.proofs.Pushing.{parent_fits, parent_loaded, crossed_step, crossed_all}
 use Rattle.search.proofs.crossover_population.Goals as goal
 
 pub load_at-left-requires : goal.load_at-left-requires
@@ -59,8 +56,7 @@ loop-i-preserved c =
     let here : c.loop-i.i + 1 < c.args.count = c.loop-i-test.true in
     let first : c.loop-i.i < c.args.count = omega arith in
     let left = parent_loaded inst c.args.h before c.loop-i.ws base c.args.count c.loop-i.i c.loop-i.size c.loop-i.invariant.3 c.args.inst.cuts c.loop-i.i c.load_at-left.result cuts first c.load_at-left.ensures in
-    let right = parent_loaded inst c.args.h before c.loop-i.ws base c.args.count c.loop-i.i c.loop-i.size c.loop-i.invariant.3 c.args.inst.cuts (c.loop-i.i + 1) c.load_at-right.result cuts here c.load_at-right.ensures in
-    (
+    let right = parent_loaded inst c.args.h before c.loop-i.ws base c.args.count c.loop-i.i c.loop-i.size c.loop-i.invariant.3 c.args.inst.cuts (c.loop-i.i + 1) c.load_at-right.result cuts here c.load_at-right.ensures in (
       omega arith,
       c.push_child-size.auto.ws ∙ c.loop-i.invariant.1,
       c.crossover_child_from_donor_bin-child.auto.free ∙ c.loop-i.invariant.2,

@@ -5,7 +5,6 @@ use Rattle.model.specs.Expand.{ProblemInstance}
 use Rattle.candidate.specs.Stands.{instance_in}
 use Rattle.search.specs.Improved.{improved}
 use Rattle.search.proofs.Passes.{compacted_shown}
-use borrow.Author.Rules.{rules}
 use Rattle.search.proofs.improve.Goals as goal
 
 pub reinsert_unused_first_fit-requires : goal.reinsert_unused_first_fit-requires
@@ -17,8 +16,7 @@ pub returns : goal.returns
 unfolding improved
 returns c =
     let inst : ProblemInstance = instance_in c.args.stock.now c.args.cuts.now c.args.inst in
-    let repair : Candidate → Candidate = reinsert_unused_first_fit inst.kerf_width c.args.h in
-    (
+    let repair : Candidate → Candidate = reinsert_unused_first_fit inst.kerf_width c.args.h in (
       record {
         is = c.reinsert_unused_first_fit.ensures.is ∙ ap repair (c.compact_worst_bin_for_repair-compacted.ensures.is ∙ ap (compact_worst_bin inst.cuts) c.reinsert_unused_first_fit-repaired.ensures.is);
         stands = c.reinsert_unused_first_fit.ensures.stands;

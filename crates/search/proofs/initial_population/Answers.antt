@@ -1,5 +1,5 @@
 -- `search::initial_population` meets its contract: the candidates of the first k seeds are stored.
-use Prim.Native.Nat.{ℕ, ◌-◌, ◌≤◌, ◌<◌}
+use Prim.Native.Nat.{ℕ, ◌<◌}
 use native.Mathlib.Omega.{arith}
 use mathlib.Core.Path.{◌≡◌, refl, ◌∙◌, subst}
 use mathlib.Core.List.{List, []}
@@ -8,11 +8,9 @@ use Rattle.model.specs.Expand.{ProblemInstance}
 use Rattle.model.specs.Search.{SearchNumbers as Numbers}
 use Rattle.candidate.specs.Stands.{instance_in}
 use Rattle.candidate.proofs.Instances.{cut_count}
-use Rattle.placing.specs.Blocks.{behind_blocks}
 use Rattle.seeds.specs.Rows.{numbers_of, rows_of}
 use Rattle.seeds.proofs.Nth.{seeds_length}
 use Rattle.stored.specs.Populations.{Holds}
-use Rattle.stored.proofs.Slots.{storable}
 use Rattle.search.proofs.Firsts.{firsts_all, in_order, StoredTo, stored_none, stored_step}
 use Rattle.lists.proofs.Maps.{counted}
 use borrow.Author.Rules.{rules}
@@ -40,8 +38,7 @@ loop-k-preserved c =
     let cuts : List ℕ = c.args.cuts.now in
     let inst : ProblemInstance = instance_in stock cuts c.args.inst in
     let here : c.loop-k.k < c.seed_count-count.result = c.loop-k-test.true in
-    let seed = c.initial_candidate_seed-seed.ensures inst (cut_count stock cuts c.args.inst) (in_order stock cuts c.args.inst c.sorted_cut_order-sorted.result _ c.sorted_cut_order-sorted.ensures.0 c.sorted_cut_order-sorted.ensures.1) in
-    (
+    let seed = c.initial_candidate_seed-seed.ensures inst (cut_count stock cuts c.args.inst) (in_order stock cuts c.args.inst c.sorted_cut_order-sorted.result _ c.sorted_cut_order-sorted.ensures.0 c.sorted_cut_order-sorted.ensures.1) in (
       search rules,
       c.store_at.auto.ws ∙ c.loop-k.invariant.1,
       c.candidate_from_seed-c.auto.free ∙ c.loop-k.invariant.2,

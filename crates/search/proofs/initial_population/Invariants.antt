@@ -1,21 +1,11 @@
 -- `search::initial_population` meets its contract: the candidates of the first k seeds are stored.
-use Prim.Native.Nat.{ℕ, ◌-◌, ◌≤◌, ◌<◌}
-use native.Mathlib.Omega.{arith}
-use mathlib.Core.Path.{◌≡◌, refl, ◌∙◌, subst}
-use mathlib.Core.List.{List, []}
+use Prim.Native.Nat.{◌-◌, ◌≤◌}
+use mathlib.Core.Path.{◌≡◌}
 use lib.ListN.{length}
-use Rattle.model.specs.Expand.{ProblemInstance}
-use Rattle.model.specs.Search.{SearchNumbers as Numbers}
 use Rattle.candidate.specs.Stands.{instance_in}
-use Rattle.candidate.proofs.Instances.{cut_count}
 use Rattle.placing.specs.Blocks.{behind_blocks}
 use Rattle.seeds.specs.Rows.{numbers_of, rows_of}
-use Rattle.seeds.proofs.Nth.{seeds_length}
-use Rattle.stored.specs.Populations.{Holds}
-use Rattle.stored.proofs.Slots.{storable}
-use Rattle.search.proofs.Firsts.{firsts_all, in_order, StoredTo, stored_none, stored_step}
-use Rattle.lists.proofs.Maps.{counted}
-use borrow.Author.Rules.{rules}
+use Rattle.search.proofs.Firsts.{StoredTo}
 use Rattle.search.proofs.initial_population.Given as goal
 
 abbrev pub invariant-loop-k : goal.invariant-loop-k

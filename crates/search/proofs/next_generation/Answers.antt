@@ -3,13 +3,11 @@ use Prim.Native.Nat.{ℕ, ◌+◌, ◌-◌, ◌≤◌}
 use native.Mathlib.Omega.{arith}
 use mathlib.Core.Path.{◌∙◌, subst}
 use mathlib.Core.List.{List}
-use lib.ListN.{length}
 use Rattle.model.specs.Expand.{ProblemInstance}
 use Rattle.candidate.specs.Stands.{instance_in}
 use Rattle.stored.specs.Populations.{population_in, Holds}
 use Rattle.stored.proofs.Populations.{only_wider, only_then}
-use Rattle.search.proofs.Rounds.{regions, region_most, generation_is}
-use borrow.Author.Rules.{rules}
+use Rattle.search.proofs.Rounds.{region_most, generation_is}
 use Rattle.search.proofs.next_generation.Goals as goal
 
 pub returns : goal.returns

@@ -1,7 +1,6 @@
 -- `search::push_child` meets its contract.
-use Rattle.search.proofs.Pushing.{push_none, push_one}
-use borrow.Author.Tests.{not-true, not-false}
-use borrow.Author.Rules.{rules}
+use Rattle.search.proofs.Pushing.{push_one}
+use borrow.Author.Tests.{not-false}
 use Rattle.search.proofs.push_child.Goals as goal
 
 pub returns : goal.returns

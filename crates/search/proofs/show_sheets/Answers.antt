@@ -1,15 +1,11 @@
 -- `search::show_sheets` meets its contract: the sheets of a candidate that stands are rebuilt.
 use Prim.Native.Nat.{◌*◌, ◌≤◌}
 use native.Mathlib.Omega.{arith}
-use mathlib.Core.Path.{◌≡◌, sym}
 use mathlib.Core.List.{[]}
 use lib.ListN.{length}
-use lib.Seq.{length-take-le}
 use Rattle.model.specs.Expand.{ProblemInstance}
 use Rattle.candidate.specs.Stands.{instance_in}
-use Rattle.candidate.proofs.Standing.{length_sheets, few_placed}
 use Rattle.placing.proofs.Rebuilding.{candidate_rebuildable, candidate_shown}
-use borrow.Author.Rules.{rules}
 use Rattle.search.proofs.show_sheets.Goals as goal
 
 pub rebuild-all-requires : goal.rebuild-all-requires

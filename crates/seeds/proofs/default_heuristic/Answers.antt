@@ -1,5 +1,5 @@
 -- `seeds::default_heuristic` meets its contract.
-use Rattle.std.proofs.Common.{sym, ◌∙◌, rules}
+use Rattle.std.proofs.Common.{sym, ◌∙◌}
 use Rattle.seeds.specs.Rows.{rows_of}
 use Rattle.seeds.proofs.Nth.{first_row}
 use Rattle.seeds.proofs.default_heuristic.Goals as goal

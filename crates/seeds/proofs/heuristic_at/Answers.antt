@@ -1,5 +1,5 @@
 -- `seeds::heuristic_at` meets its contract.
-use Rattle.std.proofs.Common.{◌≡◌, length, sym, ◌∙◌, arith, rules}
+use Rattle.std.proofs.Common.{◌≡◌, length, sym, ◌∙◌, arith}
 use Rattle.model.specs.Search.{default_heuristic}
 use Rattle.seeds.proofs.Nth.{row_at_lem, no_row}
 use Rattle.lists.proofs.Maps.{counted}

@@ -1,5 +1,5 @@
 -- `seeds::initial_candidate_seed` meets its contract: a seed of the sorted order, or a shuffle.
-use Rattle.std.proofs.Common.{◌≡◌, ℕ, ◌+◌, ◌-◌, ◌<◌, ◌≤◌, ◌++◌, length, take, drop, sym, ap, ◌∙◌, arith, rules}
+use Rattle.std.proofs.Common.{◌≡◌, ℕ, ◌+◌, ◌-◌, ◌<◌, ◌≤◌, ◌++◌, length, take, drop, sym, ap, ◌∙◌, arith}
 use Rattle.model.specs.TinyPrng.{wrap}
 use Rattle.shuffle.specs.Shuffle.{shuffled}
 use Rattle.seeds.specs.Rows.{sorted_seeds}

@@ -1,5 +1,5 @@
 -- `seeds::search_numbers` meets its contract.
-use Rattle.std.proofs.Common.{sym, ap, rules}
+use Rattle.std.proofs.Common.{sym, ap}
 use Rattle.model.specs.Search.{search_numbers}
 use Rattle.seeds.specs.Rows.{numbers_of}
 use Rattle.seeds.proofs.search_numbers.Goals as goal

@@ -1,5 +1,5 @@
 -- `seeds::seed_count` meets its contract.
-use Rattle.std.proofs.Common.{◌≡◌, ℕ, ◌+◌, length, ap, ◌∙◌, arith, rules}
+use Rattle.std.proofs.Common.{◌≡◌, ℕ, ◌+◌, length, ap, ◌∙◌, arith}
 use Rattle.seeds.proofs.Nth.{seeds_length, sorted_most}
 use Rattle.lists.proofs.Maps.{counted}
 use Rattle.seeds.proofs.seed_count.Goals as goal

@@ -1,7 +1,6 @@
 -- One free rectangle, one free leaf, no piece.
 use mathlib.Core.Path.{◌∙◌}
 use Rattle.sheet_plan.proofs.Steps.{bare}
-use borrow.Author.Rules.{rules}
 use Rattle.sheet_plan.proofs.bare_board.Goals as goal
 
 pub returns : goal.returns

@@ -1,12 +1,10 @@
 -- Waste, nodes and the words before the pieces, each where the counts say.
 use native.Mathlib.Omega.{arith}
 use mathlib.Core.Path.{◌≡◌, sym, ap, ◌∙◌}
-use lib.ListN.{get_or}
 use Rattle.model.specs.declared.StockInstance.{StockInstance}
 use Rattle.model.specs.Types.{stock_area}
 use Rattle.rect_words.proofs.Words.{length_rects}
-use Rattle.sheet_plan.proofs.Bodies.{body_length_lem, finished, Sizes, sizes}
-use borrow.Author.Rules.{rules}
+use Rattle.sheet_plan.proofs.Bodies.{body_length_lem, finished, sizes}
 use Rattle.sheet_plan.proofs.finish_sheet.Goals as goal
 
 pub put_waste-waste-requires : goal.put_waste-waste-requires

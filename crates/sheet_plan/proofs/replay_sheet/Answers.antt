@@ -1,14 +1,9 @@
 -- The invariant: the first i insertions are replayed.
-use Prim.Native.Nat.{◌-◌, ◌≤◌}
 use native.Mathlib.Omega.{arith}
-use mathlib.Core.Path.{◌≡◌, refl, sym, ◌∙◌}
-use lib.ListN.{length, take}
-use Rattle.model.specs.Expand.{ProblemInstance}
-use Rattle.candidate.specs.Stands.{instance_in, board_in, bin_in}
-use Rattle.sheet_plan.specs.Replaying.{ReplaysSheet}
+use mathlib.Core.Path.{refl, ◌∙◌}
+use Rattle.candidate.specs.Stands.{instance_in}
 use Rattle.sheet_plan.proofs.Making.{board_range, row_within, row_is}
-use Rattle.sheet_plan.proofs.Turns.{replay_start, replay_turn, replay_end}
-use borrow.Author.Rules.{rules}
+use Rattle.sheet_plan.proofs.Turns.{replay_start, replay_turn}
 use Rattle.sheet_plan.proofs.replay_sheet.Goals as goal
 
 pub stock_at-s-requires : goal.stock_at-s-requires
@@ -23,9 +18,8 @@ unfolding instance_in
 loop-i-init c = (omega arith, refl, replay_start ((instance_in c.args.stock.now c.args.cuts.now c.args.n)) c.args.insertions.now c.args.board c.requires.1 c.args.at c.args.plan.now _ _ _ _ ((row_is c.args.stock.now c.args.cuts.now c.args.n c.args.insertions.now c.args.board c.requires.1 _ refl c.stock_at-s.result c.stock_at-s.ensures)) c.bare_board-p.ensures)
 
 pub loop-i-preserved : goal.loop-i-preserved
-loop-i-preserved c =
-    (
-      omega arith,
-      c.replay_word-p.auto.plan ∙ c.loop-i.invariant.1,
-      replay_turn ((instance_in c.args.stock.now c.args.cuts.now c.args.n)) c.args.insertions.now c.args.board c.requires.1 c.args.at c.args.plan.now c.loop-i.i c.loop-i-test.true c.requires.4 c.loop-i.plan c.loop-i.rects c.loop-i.guide c.loop-i.p c.loop-i.invariant.2 _ _ _ _ c.replay_word-p.ensures,
-    )
+loop-i-preserved c = (
+  omega arith,
+  c.replay_word-p.auto.plan ∙ c.loop-i.invariant.1,
+  replay_turn ((instance_in c.args.stock.now c.args.cuts.now c.args.n)) c.args.insertions.now c.args.board c.requires.1 c.args.at c.args.plan.now c.loop-i.i c.loop-i-test.true c.requires.4 c.loop-i.plan c.loop-i.rects c.loop-i.guide c.loop-i.p c.loop-i.invariant.2 _ _ _ _ c.replay_word-p.ensures,
+)

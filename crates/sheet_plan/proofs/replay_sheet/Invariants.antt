@@ -1,14 +1,9 @@
 -- The invariant: the first i insertions are replayed.
 use Prim.Native.Nat.{◌-◌, ◌≤◌}
-use native.Mathlib.Omega.{arith}
-use mathlib.Core.Path.{◌≡◌, refl, sym, ◌∙◌}
+use mathlib.Core.Path.{◌≡◌}
 use lib.ListN.{length, take}
-use Rattle.model.specs.Expand.{ProblemInstance}
-use Rattle.candidate.specs.Stands.{instance_in, board_in, bin_in}
+use Rattle.candidate.specs.Stands.{instance_in, bin_in}
 use Rattle.sheet_plan.specs.Replaying.{ReplaysSheet}
-use Rattle.sheet_plan.proofs.Making.{board_range, row_within, row_is}
-use Rattle.sheet_plan.proofs.Turns.{replay_start, replay_turn, replay_end}
-use borrow.Author.Rules.{rules}
 use Rattle.sheet_plan.proofs.replay_sheet.Given as goal
 
 abbrev pub invariant-loop-i : goal.invariant-loop-i

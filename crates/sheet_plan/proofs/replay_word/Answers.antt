@@ -1,17 +1,14 @@
 -- An insertion on another board passes by; one on the board finds its place, since the whole making does.
-use Prim.Native.Nat.{ℕ, ◌<◌}
 use native.Mathlib.Omega.{arith}
 use mathlib.Core.Path.{◌≡◌, refl, sym, ap, ◌∙◌}
 use lib.ListN.{get_or}
 use Rattle.model.specs.declared.StockInstance.{StockInstance}
-use Rattle.model.specs.Expand.{ProblemInstance}
 use Rattle.rows.specs.Rows.{cut_at}
-use Rattle.candidate.specs.Entries.{board_of, cut_of}
-use Rattle.candidate.specs.Stands.{instance_in, board_in, cut_in}
+use Rattle.candidate.specs.Entries.{cut_of}
+use Rattle.candidate.specs.Stands.{instance_in}
 use Rattle.candidate.proofs.Instances.{cut_count, cut_in_lem}
 use Rattle.sheet_plan.proofs.Making.{cut_known, row_within, row_is}
 use Rattle.sheet_plan.proofs.Turns.{passed, ready, room_for, done}
-use borrow.Author.Rules.{rules}
 use Rattle.sheet_plan.proofs.replay_word.Goals as goal
 
 pub returns-then-board_of-board : goal.returns-then-board_of-board

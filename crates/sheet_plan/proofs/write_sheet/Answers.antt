@@ -1,12 +1,10 @@
 -- The sheet is made again, with its pieces in the plan; then the rest of its words.
 use native.Mathlib.Omega.{arith}
-use mathlib.Core.Path.{◌≡◌, refl, sym, ◌∙◌}
-use Rattle.model.specs.Expand.{ProblemInstance}
+use mathlib.Core.Path.{refl, sym, ◌∙◌}
 use Rattle.trust.proofs.RoundTrip.{sheet_length}
-use Rattle.candidate.specs.Stands.{instance_in, board_in, bin_in}
+use Rattle.candidate.specs.Stands.{instance_in, bin_in}
 use Rattle.sheet_plan.proofs.Making.{bin_board, row_within, row_is}
 use Rattle.sheet_plan.proofs.Turns.{finishable}
-use borrow.Author.Rules.{rules}
 use Rattle.sheet_plan.proofs.write_sheet.Goals as goal
 
 pub replay_sheet-p-requires : goal.replay_sheet-p-requires

@@ -1,14 +1,12 @@
 -- `shuffle::shuffle_cut_order` meets its contract. What is left of the shuffle, from the present index, state and list,
 -- gives what the whole one gives.
-use mathlib.Core.Path.{◌≡◌, refl, sym, ap₂, ◌∙◌}
-use Prim.Native.Nat.{ℕ, pred, ◌+◌, ◌-◌, ◌*◌, ◌≤◌, ◌<◌}
+use mathlib.Core.Path.{refl, sym, ap₂, ◌∙◌}
+use Prim.Native.Nat.{ℕ, pred, ◌+◌, ◌-◌}
 use native.Mathlib.Omega.{arith}
 use lib.ListN.{length, length-set}
-use mir.Syntax.{w64}
-use mir.Val.{Fits}
 use Rattle.lists.specs.Base.{swap}
 use Rattle.model.specs.TinyPrng.{next_state}
-use Rattle.shuffle.specs.Shuffle.{shuffled_from, shuffled}
+use Rattle.shuffle.specs.Shuffle.{shuffled_from}
 use Rattle.shuffle.proofs.Shuffle.{index_below, turn, over, whole}
 use borrow.Author.Rules.{rules, scaled_Fits}
 use Rattle.shuffle.proofs.shuffle_cut_order.Goals as goal
@@ -38,14 +36,13 @@ bounds-order-other-in-loop-index c =
 
 pub loop-index-preserved : goal.loop-index-preserved
 unfolding swap
-loop-index-preserved c =
-    (
-      simp length-set c.loop-index.invariant.0,
-      search rules,
-      ap₂ (λ (s j : ℕ). shuffled_from 0 (pred (c.loop-index.index - 1)) s (swap 0 (c.loop-index.index - 1) j c.loop-index.order)) c.draw-drawn.ensures.1 c.draw-drawn.ensures.0
-          ∙ sym (turn c.loop-index.index c.loop-index.state c.loop-index.order c.loop-index-test.true)
-          ∙ c.loop-index.invariant.2,
-    )
+loop-index-preserved c = (
+  simp length-set c.loop-index.invariant.0,
+  search rules,
+  ap₂ (λ (s j : ℕ). shuffled_from 0 (pred (c.loop-index.index - 1)) s (swap 0 (c.loop-index.index - 1) j c.loop-index.order)) c.draw-drawn.ensures.1 c.draw-drawn.ensures.0
+      ∙ sym (turn c.loop-index.index c.loop-index.state c.loop-index.order c.loop-index-test.true)
+      ∙ c.loop-index.invariant.2,
+)
 
 pub returns : goal.returns
 returns c = sym (over c.loop-index.index c.loop-index.state c.loop-index.order c.loop-index-test.false) ∙ c.loop-index.invariant.2

@@ -1,16 +1,9 @@
 -- `shuffle::shuffle_cut_order` meets its contract. What is left of the shuffle, from the present index, state and list,
 -- gives what the whole one gives.
-use mathlib.Core.Path.{◌≡◌, refl, sym, ap₂, ◌∙◌}
-use Prim.Native.Nat.{ℕ, pred, ◌+◌, ◌-◌, ◌*◌, ◌≤◌, ◌<◌}
-use native.Mathlib.Omega.{arith}
-use lib.ListN.{length, length-set}
-use mir.Syntax.{w64}
-use mir.Val.{Fits}
-use Rattle.lists.specs.Base.{swap}
-use Rattle.model.specs.TinyPrng.{next_state}
+use mathlib.Core.Path.{◌≡◌}
+use Prim.Native.Nat.{pred, ◌≤◌}
+use lib.ListN.{length}
 use Rattle.shuffle.specs.Shuffle.{shuffled_from, shuffled}
-use Rattle.shuffle.proofs.Shuffle.{index_below, turn, over, whole}
-use borrow.Author.Rules.{rules, scaled_Fits}
 use Rattle.shuffle.proofs.shuffle_cut_order.Given as goal
 
 abbrev pub invariant-loop-index : goal.invariant-loop-index

@@ -1,11 +1,8 @@
 -- The invariant: what lies from i on has been moved.
 use Prim.Native.Nat.{◌+◌, ◌-◌, ◌≤◌}
-use mathlib.Core.Path.{◌≡◌, refl, ap, ◌∙◌}
-use native.Mathlib.Omega.{arith}
-use lib.ListN.{length, length-set}
+use mathlib.Core.Path.{◌≡◌}
+use lib.ListN.{length}
 use Rattle.lists.specs.Parts.{part, patch}
-use Rattle.lists.proofs.Parts.{moved_step, moved_none}
-use borrow.Author.Rules.{rules}
 use Rattle.splice.proofs.move_up.Given as goal
 
 abbrev pub invariant-loop-i : goal.invariant-loop-i

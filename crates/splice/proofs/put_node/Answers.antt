@@ -6,7 +6,6 @@ use native.Mathlib.Omega.{arith}
 use Rattle.lists.proofs.Parts.{then_patch}
 use Rattle.model.specs.Plan.{rect_words}
 use Rattle.subtree.specs.declared.Node.{Node}
-use borrow.Author.Rules.{rules}
 use Rattle.splice.proofs.put_node.Goals as goal
 
 pub returns : goal.returns

@@ -1,9 +1,6 @@
 -- Five parts side by side, each where the one before it ends.
 use mathlib.Core.Path.{◌∙◌}
-use native.Mathlib.Omega.{arith}
-use Rattle.subtree.specs.declared.Subtree.{Subtree}
-use Rattle.splice.proofs.Subtrees.{subtree_length, put_five}
-use borrow.Author.Rules.{rules}
+use Rattle.splice.proofs.Subtrees.{put_five}
 use Rattle.splice.proofs.put_subtree.Goals as goal
 
 pub returns : goal.returns

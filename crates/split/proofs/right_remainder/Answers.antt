@@ -1,7 +1,6 @@
 -- `split::right_remainder` meets its contract: a rectangle on what is left of the side, or none.
 use mathlib.Core.List.{[], ◌∷◌}
 use Rattle.split.proofs.Rests.{right_on}
-use borrow.Author.Rules.{rules}
 use Rattle.split.proofs.right_remainder.Goals as goal
 
 pub returns-in-Nothing : goal.returns-in-Nothing

@@ -1,13 +1,10 @@
 -- `stored::copy_stored` meets its contract: the first i words are copied.
 use mathlib.Core.Path.{◌≡◌}
 use mathlib.Core.List.{List}
-use Prim.Native.Nat.{ℕ, ◌-◌, ◌*◌, ◌≤◌}
+use Prim.Native.Nat.{ℕ}
 use native.Mathlib.Omega.{arith}
-use lib.ListN.{length, length-set}
-use lib.Seq.{paste, paste-zero}
-use Rattle.stored.specs.Slots.{slot_words, slot_of}
+use lib.ListN.{length-set}
 use Rattle.stored.proofs.Copies.{copy_turn, copy_end}
-use borrow.Author.Rules.{rules}
 use Rattle.stored.proofs.copy_stored.Goals as goal
 
 pub loop-i-preserved : goal.loop-i-preserved

@@ -1,13 +1,9 @@
 -- `stored::copy_stored` meets its contract: the first i words are copied.
 use mathlib.Core.Path.{◌≡◌}
-use mathlib.Core.List.{List}
-use Prim.Native.Nat.{ℕ, ◌-◌, ◌*◌, ◌≤◌}
-use native.Mathlib.Omega.{arith}
-use lib.ListN.{length, length-set}
-use lib.Seq.{paste, paste-zero}
+use Prim.Native.Nat.{◌-◌, ◌*◌, ◌≤◌}
+use lib.ListN.{length}
+use lib.Seq.{paste}
 use Rattle.stored.specs.Slots.{slot_words, slot_of}
-use Rattle.stored.proofs.Copies.{copy_turn, copy_end}
-use borrow.Author.Rules.{rules}
 use Rattle.stored.proofs.copy_stored.Given as goal
 
 abbrev pub invariant-loop-i : goal.invariant-loop-i

@@ -7,7 +7,6 @@ use lib.ListN.{length, drop, replicate}
 use lib.Seq.{take-take}
 use Rattle.stored.specs.Slots.{filled}
 use Rattle.lists.specs.Parts.{part, patch}
-use borrow.Author.Rules.{rules}
 use Rattle.stored.proofs.get_words.Goals as goal
 
 pub returns : goal.returns

@@ -6,7 +6,6 @@ use Rattle.stored.specs.Slots.{unpacked}
 use Rattle.stored.proofs.Slots.{filled_all}
 use Rattle.lists.specs.Parts.{part}
 use Rattle.lists.proofs.Parts.{length_part}
-use borrow.Author.Rules.{rules}
 use Rattle.stored.proofs.load.Goals as goal
 
 pub returns : goal.returns

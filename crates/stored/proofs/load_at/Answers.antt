@@ -1,11 +1,8 @@
 -- `stored::load_at` meets its contract.
-use mathlib.Core.Path.{sym, ap, ◌∙◌, subst}
-use mathlib.Core.List.{List}
-use Prim.Native.Nat.{ℕ, ◌*◌, ◌≤◌}
-use lib.ListN.{length, get_or}
+use mathlib.Core.Path.{ap, ◌∙◌}
+use Prim.Native.Nat.{◌*◌}
 use Rattle.stored.specs.Slots.{slot_words, unpacked, stored_in}
-use Rattle.lists.proofs.Parts.{length_part, part_span}
-use borrow.Author.Rules.{rules}
+use Rattle.lists.proofs.Parts.{part_span}
 use Rattle.stored.proofs.load_at.Goals as goal
 
 pub returns : goal.returns

@@ -2,7 +2,7 @@
 use mathlib.Core.Path.{◌≡◌, ap, ◌∙◌}
 use Prim.Native.Nat.{ℕ, ◌+◌, ◌*◌}
 use native.Mathlib.Omega.{arith}
-use lib.ListN.{length, take, length-set}
+use lib.ListN.{length, take}
 use lib.Seq.{take_all, length-take-le}
 use Rattle.stored.specs.Slots.{slot_words, packed, store_in}
 use Rattle.stored.proofs.Slots.{store_words}

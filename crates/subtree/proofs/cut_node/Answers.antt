@@ -1,6 +1,5 @@
 -- A cut's words do not depend on its children.
 use Rattle.model.specs.Plan.{node_words}
-use borrow.Author.Rules.{rules}
 use Rattle.subtree.proofs.cut_node.Goals as goal
 
 pub returns : goal.returns

@@ -1,6 +1,5 @@
 -- With no remainder the node stands alone; with one, the cut stands before it and the remainder's leaf after it.
 use Rattle.subtree.proofs.Cuts.{cut_off_nothing, cut_off_around}
-use borrow.Author.Rules.{rules}
 use Rattle.subtree.proofs.cut_off.Goals as goal
 
 pub returns-in-Nothing : goal.returns-in-Nothing

@@ -1,11 +1,9 @@
 -- The bottom remainder is cut off inside the right one. Each is there only if it is larger than the kerf, so that Cut::new takes its cut.
 use mathlib.Core.Path.{refl}
 use native.Mathlib.Omega.{arith}
-use Rattle.model.specs.declared.Rect.{Rect}
 use Rattle.model.specs.Types.{rect}
 use Rattle.model.specs.Guide.{insert_subtree}
-use Rattle.subtree.proofs.Cuts.{subtree_words_lem, bottom_cuttable, right_cuttable, splittable}
-use borrow.Author.Rules.{rules}
+use Rattle.subtree.proofs.Cuts.{subtree_words_lem, bottom_cuttable, right_cuttable}
 use Rattle.subtree.proofs.guillotine_vertical_insert_subtree.Goals as goal
 
 pub cut_off-requires : goal.cut_off-requires

@@ -1,7 +1,6 @@
 -- A piece's words: the id's low half, then its high half.
 use mathlib.Core.Path.{refl}
 use Rattle.model.specs.Plan.{node_words}
-use borrow.Author.Rules.{rules}
 use Rattle.subtree.proofs.piece_node.Goals as goal
 
 pub returns : goal.returns

@@ -14,8 +14,6 @@ use Rattle.candidate.proofs.Instances.{cut_count}
 use Rattle.candidate.proofs.Standing.{few_placed}
 use Rattle.variation.specs.Donated.{with_insertions, donated, child_words}
 use Rattle.variation.proofs.Answers.{no_child, one_child, index_most, board_most, index_found, made_few, made_rebuildable, answer_none, answer_some, sheet_few, child_is}
-use borrow.Author.Tests.{not-true, not-false}
-use borrow.Author.Rules.{rules}
 use Rattle.variation.proofs.child_of_sheet.Goals as goal
 
 pub offset_bounds-right-index : goal.offset_bounds-right-index

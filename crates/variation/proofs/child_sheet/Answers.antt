@@ -3,7 +3,6 @@ use mathlib.Core.Path.{ap, ◌∙◌}
 use Prim.Native.Nat.{ℕ}
 use Rattle.candidate.specs.Moves.{moved_up}
 use Rattle.variation.specs.Children.{sheet_of}
-use borrow.Author.Rules.{rules}
 use Rattle.variation.proofs.child_sheet.Goals as goal
 
 pub returns : goal.returns

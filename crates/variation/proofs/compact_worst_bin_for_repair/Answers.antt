@@ -1,12 +1,10 @@
 -- `variation::compact_worst_bin_for_repair` meets its contract.
-use Prim.Native.Nat.{ℕ, ◌<◌}
+use Prim.Native.Nat.{ℕ}
 use native.Mathlib.Omega.{arith}
 use mathlib.Core.Path.{◌≡◌, sym, ap, ◌∙◌}
 use mathlib.Core.List.{[]}
 use lib.ListN.{length}
-use Rattle.model.specs.Expand.{ProblemInstance}
 use Rattle.candidate.specs.Stands.{instance_in, candidate_in}
-use Rattle.evaluation.specs.OnSheets.{IsWorst}
 use Rattle.evaluation.proofs.Sheets.{stock_count, few_sheets}
 use Rattle.evaluation.proofs.Scored.{bin_count}
 use Rattle.variation.specs.Compact.{put_back}
@@ -39,13 +37,15 @@ bounds-c-index c =
     )
 
 pub return_stock-boards-requires : goal.return_stock-boards-requires
-return_stock-boards-requires c =
-    ((omega (
-      arith,
-      ((c.worst_bin_index-index.ensures (candidate_in ((instance_in c.args.stock.now c.args.cuts.now c.args.inst)) c.args.c).bins (bin_count c.args.stock.now c.args.cuts.now c.args.inst c.args.c c.requires.0 c.requires.1) c.sheet_areas.ensures)).0,
-      bin_count c.args.stock.now c.args.cuts.now c.args.inst c.args.c c.requires.0 c.requires.1,
-      few_sheets c.args.stock.now c.args.cuts.now c.args.inst [] c.args.c c.requires.0 c.requires.1,
-    )), c.requires.0.few_boards)
+return_stock-boards-requires c = (
+  (omega (
+    arith,
+    ((c.worst_bin_index-index.ensures (candidate_in ((instance_in c.args.stock.now c.args.cuts.now c.args.inst)) c.args.c).bins (bin_count c.args.stock.now c.args.cuts.now c.args.inst c.args.c c.requires.0 c.requires.1) c.sheet_areas.ensures)).0,
+    bin_count c.args.stock.now c.args.cuts.now c.args.inst c.args.c c.requires.0 c.requires.1,
+    few_sheets c.args.stock.now c.args.cuts.now c.args.inst [] c.args.c c.requires.0 c.requires.1,
+  )),
+  c.requires.0.few_boards,
+)
 
 pub returns : goal.returns
 returns c =

@@ -1,12 +1,10 @@
 -- `variation::crossover_child_from_donor_bin` meets its contract.
-use native.Mathlib.Omega.{arith}
 use mathlib.Core.Path.{refl}
 use Rattle.model.specs.Expand.{ProblemInstance}
 use Rattle.model.specs.Search.{child_of}
 use Rattle.candidate.specs.Stands.{instance_in, candidate_in}
 use Rattle.variation.proofs.Crossed.{no_donor}
 use Rattle.variation.proofs.Answers.{no_child, no_bins, bins_length}
-use borrow.Author.Rules.{rules}
 use Rattle.variation.proofs.crossover_child_from_donor_bin.Goals as goal
 
 pub returns-then-sheets-eq0 : goal.returns-then-sheets-eq0

@@ -1,10 +1,7 @@
 -- The loop's invariant: the index is i more than that in what is left.
-use Prim.Native.Nat.{ℕ, ◌+◌, ◌-◌, ◌≤◌}
+use Prim.Native.Nat.{ℕ}
 use native.Mathlib.Omega.{arith}
-use mathlib.Core.Path.{◌≡◌}
 use mathlib.Core.List.{List}
-use lib.ListN.{length, drop}
-use Rattle.variation.specs.Donated.{index_of}
 use Rattle.variation.proofs.Pushes.{index_hit, index_miss, index_end}
 use borrow.Author.Rules.{rules}
 use Rattle.variation.proofs.index_of.Goals as goal

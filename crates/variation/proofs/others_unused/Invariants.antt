@@ -1,17 +1,8 @@
 -- The loop's invariant: the cuts so far that are not placed.
-use Prim.Native.Nat.{ℕ, ◌+◌, ◌-◌, ◌≤◌}
-use native.Mathlib.Omega.{arith}
-use mathlib.Core.Path.{◌≡◌, sym, ap, ◌∙◌}
-use mathlib.Core.Logic.{⊎_elim}
-use mathlib.Core.List.{List}
+use Prim.Native.Nat.{◌+◌, ◌-◌, ◌≤◌}
+use mathlib.Core.Path.{◌≡◌}
 use lib.ListN.{length, take}
-use lib.Seq.{length-take-le}
-use Rattle.candidate.specs.declared.Candidate.{Candidate as Words}
-use Rattle.candidate.specs.Moves.{with_unused}
 use Rattle.variation.specs.Donated.{with_unused_cuts, others_than}
-use Rattle.variation.proofs.Pushes.{no_others, others_more, others_same, unused_count_lem}
-use borrow.Author.Tests.{not-true, not-false}
-use borrow.Author.Rules.{rules}
 use Rattle.variation.proofs.others_unused.Given as goal
 
 abbrev pub invariant-loop-i : goal.invariant-loop-i

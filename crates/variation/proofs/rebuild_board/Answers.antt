@@ -1,12 +1,8 @@
 -- `variation::rebuild_board` meets its contract.
-use native.Mathlib.Omega.{arith}
-use mathlib.Core.Path.{◌≡◌, sym, ◌∙◌}
-use lib.ListN.{length}
-use lib.Seq.{length-take-le}
+use mathlib.Core.Path.{◌∙◌}
 use Rattle.model.specs.Expand.{ProblemInstance}
 use Rattle.candidate.specs.Stands.{instance_in, placed_words}
 use Rattle.variation.proofs.Answers.{one_board_lem}
-use borrow.Author.Rules.{rules}
 use Rattle.variation.proofs.rebuild_board.Goals as goal
 
 pub returns : goal.returns

@@ -1,10 +1,8 @@
 -- The loop's invariant: the boards between the index and i are moved down by one.
 use Prim.Native.Nat.{◌-◌, ◌≤◌, ◌<◌}
-use native.Mathlib.Omega.{arith}
-use mathlib.Core.Path.{◌≡◌, ap, ◌∙◌}
+use mathlib.Core.Path.{◌≡◌}
 use lib.ListN.{length}
-use Rattle.variation.proofs.Shifted.{shifted, shifted_none, shifted_turn, shifted_all}
-use borrow.Author.Rules.{rules}
+use Rattle.variation.proofs.Shifted.{shifted}
 use Rattle.variation.proofs.return_stock.Given as goal
 
 abbrev pub invariant-loop-i : goal.invariant-loop-i

@@ -1,10 +1,8 @@
 -- The loop's invariant: the insertions so far, sorted out.
-use Prim.Native.Nat.{◌+◌, ◌-◌, ◌≤◌}
-use native.Mathlib.Omega.{arith}
+use Prim.Native.Nat.{◌+◌}
 use mathlib.Core.Path.{◌≡◌, sym, ◌∙◌}
-use mathlib.Core.Logic.{⊎_elim}
 use lib.ListN.{length}
-use Rattle.variation.proofs.Apart.{Sorted, sorted_same, sorted_none, sorted_out, sorted_kept, sorted_all}
+use Rattle.variation.proofs.Apart.{Sorted, sorted_same, sorted_none, sorted_out, sorted_kept}
 use borrow.Author.Rules.{rules}
 use Rattle.variation.proofs.take_apart.Goals as goal
 use Rattle.variation.proofs.take_apart.Goals.{then-board_of-board, else-board_of-board}
@@ -18,11 +16,11 @@ loop-i-init c =
 pub loop-i-preserved : goal.loop-i-preserved
 loop-i-preserved c =
     let turn : Sorted c.args.c c.args.board (c.loop-i.i + 1) c.if-board_of-board.after c.if-board_of-board.kept c.if-board_of-board.unused =
-        elim c.if-board_of-board.branch [
-          then-board_of-board w ↦
-            sorted_same c.args.c c.args.board (c.loop-i.i + 1) c.if-board_of-board.after _ c.if-board_of-board.kept _ c.if-board_of-board.unused _ w.after-is w.kept-is w.unused-is (sorted_out c.args.c c.args.board c.loop-i.i c.loop-i.after c.loop-i.kept c.loop-i.unused c.loop-i.invariant.2 c.loop-i-test.true c.loop-i.invariant.1 c.loop-i.invariant.3 w.cut_of.result w.cut_of.ensures (sym c.board_of.ensures ∙ w.if-board_of-board.true))
-        | else-board_of-board w ↦
-            sorted_same c.args.c c.args.board (c.loop-i.i + 1) c.if-board_of-board.after _ c.if-board_of-board.kept _ c.if-board_of-board.unused _ w.after-is w.kept-is w.unused-is (sorted_kept c.args.c c.args.board c.loop-i.i c.loop-i.after c.loop-i.kept c.loop-i.unused c.loop-i.invariant.2 c.loop-i-test.true c.loop-i.invariant.1 c.loop-i.invariant.3 (λ e. w.if-board_of-board.false (c.board_of.ensures ∙ e)))
-        ]
+    elim c.if-board_of-board.branch [
+      | then-board_of-board w ↦
+          sorted_same c.args.c c.args.board (c.loop-i.i + 1) c.if-board_of-board.after _ c.if-board_of-board.kept _ c.if-board_of-board.unused _ w.after-is w.kept-is w.unused-is (sorted_out c.args.c c.args.board c.loop-i.i c.loop-i.after c.loop-i.kept c.loop-i.unused c.loop-i.invariant.2 c.loop-i-test.true c.loop-i.invariant.1 c.loop-i.invariant.3 w.cut_of.result w.cut_of.ensures (sym c.board_of.ensures ∙ w.if-board_of-board.true))
+      | else-board_of-board w ↦
+          sorted_same c.args.c c.args.board (c.loop-i.i + 1) c.if-board_of-board.after _ c.if-board_of-board.kept _ c.if-board_of-board.unused _ w.after-is w.kept-is w.unused-is (sorted_kept c.args.c c.args.board c.loop-i.i c.loop-i.after c.loop-i.kept c.loop-i.unused c.loop-i.invariant.2 c.loop-i-test.true c.loop-i.invariant.1 c.loop-i.invariant.3 (λ e. w.if-board_of-board.false (c.board_of.ensures ∙ e)))
+    ]
     in
     (search rules, search rules, search rules, turn)

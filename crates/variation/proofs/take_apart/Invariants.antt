@@ -1,11 +1,8 @@
 -- The loop's invariant: the insertions so far, sorted out.
 use Prim.Native.Nat.{◌+◌, ◌-◌, ◌≤◌}
-use native.Mathlib.Omega.{arith}
-use mathlib.Core.Path.{◌≡◌, sym, ◌∙◌}
-use mathlib.Core.Logic.{⊎_elim}
+use mathlib.Core.Path.{◌≡◌}
 use lib.ListN.{length}
-use Rattle.variation.proofs.Apart.{Sorted, sorted_same, sorted_none, sorted_out, sorted_kept, sorted_all}
-use borrow.Author.Rules.{rules}
+use Rattle.variation.proofs.Apart.{Sorted}
 use Rattle.variation.proofs.take_apart.Given as goal
 
 abbrev pub invariant-loop-i : goal.invariant-loop-i
