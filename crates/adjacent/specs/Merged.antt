@@ -1,7 +1,6 @@
 -- The answer of `merge_adjacent_rects` by the definition's value, and what its two halves ask first.
-use Rattle.std.specs.Prelude.{ℕ, Bool, ◌&&◌, eqb}
+use Rattle.std.specs.Prelude.{ℕ, Bool, ◌&&◌, eqb, if◌then◌else◌}
 use Rattle.std.proofs.Math.Option.{Option, none, some}
-use Rattle.lists.specs.Base.{if◌then◌else◌}
 use Rattle.model.specs.declared.Rect.{Rect}
 use Rattle.model.specs.Merge.{beside, joined}
 use Rattle.adjacent.specs.declared.Merged.{Merged}

@@ -1,6 +1,5 @@
 -- What `cutplan` prints for a project file: the text of its plan, or the number of its refusal.
-use Rattle.std.specs.Prelude.{ℕ, List, [], ◌∷◌, ◌++◌, eqb, replicate}
-use Rattle.lists.specs.Base.{if◌then◌else◌}
+use Rattle.std.specs.Prelude.{ℕ, List, [], ◌∷◌, ◌++◌, eqb, replicate, if◌then◌else◌}
 use Rattle.model.specs.Outcome.{Outcome, least_workspace, least_plan, outcome}
 use Rattle.optimizer.specs.Promise.{number_of_answer}
 use Rattle.append.specs.Ascii.{ascii}

@@ -1,4 +1,5 @@
 -- The laws of `Appended`: nothing, one byte, one text after another, and what is put into a full buffer. The digits of a number, one more at a time.
+use Rattle.std.specs.Prelude.{if◌then◌else◌}
 use Prim.Native.Nat.{ℕ, zero, suc, ◌+◌, ◌-◌, ◌/◌, ◌%◌, ◌≤◌, ◌<◌}
 use native.Mathlib.Nat.{mod-eq_of_lt}
 use native.Mathlib.Numerals.{add-one}
@@ -9,7 +10,7 @@ use mathlib.Core.List.{List, [], ◌∷◌, ◌++◌, append_assoc, append-nil}
 use lib.Dec.{ltb}
 use lib.ListN.{length, take, get_or, set, length-append, length-take, length-set}
 use lib.Seq.{take-suc, take_all, take-suc-set, drop-set-lt, take-append-le, length-take-le}
-use Rattle.lists.specs.Base.{if◌then◌else◌, concat_map, count_from, range}
+use Rattle.lists.specs.Base.{concat_map, count_from, range}
 use Rattle.lists.proofs.Counts.{counted_split, counted_next}
 use Rattle.lists.proofs.Arrays.{take_cut, drop_later}
 use Rattle.model.specs.FileOf.{bytes_of}

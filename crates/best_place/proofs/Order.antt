@@ -1,11 +1,12 @@
 -- The order of two scores as a chain of tests: the first number that differs decides.
+use Rattle.std.specs.Prelude.{if◌then◌else◌}
 use Prim.Native.Nat.{ℕ, ◌<◌, ◌≤◌, compare, Ordering}
 use native.Mathlib.Omega.{arith}
 use mathlib.Core.Path.{◌≡◌, refl, sym, ap, ◌∙◌}
 use mathlib.Core.Bool.{Bool, true, false}
 use lib.Dec.{is_le, compare_is_eq, ltb, eqb}
 use borrow.Author.Tests.{lt-ltb, le-ltb, leb-true, leb-false, eqb-true, eqb-false, eq-eqb, ne_eqb}
-use Rattle.lists.specs.Base.{if◌then◌else◌, is_less, then_with, lexicographic}
+use Rattle.lists.specs.Base.{is_less, then_with, lexicographic}
 use Rattle.choice.specs.declared.Score.{Score}
 use Rattle.choice.specs.Numbers.{numbers_of}
 

@@ -1,4 +1,5 @@
 -- The search for the best place, step by step.
+use Rattle.std.specs.Prelude.{if◌then◌else◌}
 use Prim.Native.Nat.{ℕ, zero, suc, ◌+◌, ◌-◌, ◌≤◌, ◌<◌}
 use native.Mathlib.Nat.{le_refl}
 use native.Mathlib.Numerals.{add-one}
@@ -9,7 +10,7 @@ use mathlib.Core.List.{List, [], ◌∷◌, ◌++◌, map}
 use mathlib.Core.Option.{Option, none, some}
 use lib.ListN.{length, get_or, drop}
 use lib.Seq.{drop-drop}
-use Rattle.lists.specs.Base.{if◌then◌else◌, is_empty, is_less, lexicographic, enumerate_from, concat_map, keep_best, first_best}
+use Rattle.lists.specs.Base.{is_empty, is_less, lexicographic, enumerate_from, concat_map, keep_best, first_best}
 use Rattle.model.specs.declared.PatternDirection.{PatternDirection}
 use Rattle.model.specs.declared.RotationPreference.{RotationPreference}
 use Rattle.model.specs.declared.BaselineGuillotineHeuristic.{BaselineGuillotineHeuristic}

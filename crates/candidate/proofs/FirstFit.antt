@@ -1,4 +1,5 @@
 -- The first sheet that takes an insertion: what the definition's two loops of place_cut_first_fit find there.
+use Rattle.std.specs.Prelude.{if◌then◌else◌}
 use Prim.Native.Nat.{ℕ, zero, suc, ◌-◌, ◌≤◌, ◌<◌}
 use native.Mathlib.Nat.{le_of_suc-le-suc, not-suc-le-zero, zero-lt-suc}
 use native.Mathlib.Omega.{arith}
@@ -7,7 +8,7 @@ use mathlib.Core.List.{List, [], ◌∷◌, ◌++◌, map}
 use mathlib.Core.Bool.{true}
 use mathlib.Core.Option.{Option, none, some}
 use lib.ListN.{length, get_or, set, take}
-use Rattle.lists.specs.Base.{if◌then◌else◌, is_some, remove_at}
+use Rattle.lists.specs.Base.{is_some, remove_at}
 use Rattle.lists.proofs.Perm.{All}
 use Rattle.model.specs.declared.StockInstance.{StockInstance}
 use Rattle.model.specs.Sheet.{GuillotineSheet, Insertion, new_sheet, try_insert}

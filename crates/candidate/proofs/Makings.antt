@@ -1,4 +1,5 @@
 -- The makings of sheets in words: one more insertion changes only the sheet on its board, by one `try_insert`.
+use Rattle.std.specs.Prelude.{if◌then◌else◌}
 use Prim.Native.Nat.{ℕ}
 use mathlib.Core.Path.{◌≡◌, refl, ap, ◌∙◌}
 use mathlib.Core.Bool.{Bool}
@@ -6,7 +7,7 @@ use mathlib.Core.List.{List, [], ◌∷◌, ◌++◌, map, append-nil}
 use mathlib.Core.Option.{Option, none, some, get_or}
 use lib.Dec.{eqb}
 use borrow.Author.Tests.{eq-eqb, ne_eqb}
-use Rattle.lists.specs.Base.{if◌then◌else◌, ◌>>=◌, retain, fold_option}
+use Rattle.lists.specs.Base.{◌>>=◌, retain, fold_option}
 use Rattle.lists.proofs.Perm.{All}
 use Rattle.lists.proofs.Sums.{map_append}
 use Rattle.lists.proofs.Options.{fold_append}

@@ -1,6 +1,6 @@
 -- What a placement does to the words of a candidate.
-use Rattle.std.specs.Prelude.{ℕ, suc, ◌+◌, List, [], ◌∷◌, map, leb, length, get_or, set, take, replicate}
-use Rattle.lists.specs.Base.{if◌then◌else◌, is_some, range, remove_at}
+use Rattle.std.specs.Prelude.{ℕ, suc, ◌+◌, List, [], ◌∷◌, map, leb, length, get_or, set, take, replicate, if◌then◌else◌}
+use Rattle.lists.specs.Base.{is_some, range, remove_at}
 use Rattle.model.specs.declared.BaselineGuillotineHeuristic.{BaselineGuillotineHeuristic}
 use Rattle.model.specs.Sheet.{GuillotineSheet, Insertion, try_insert}
 use Rattle.model.specs.Expand.{ProblemInstance}

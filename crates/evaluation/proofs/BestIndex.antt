@@ -1,4 +1,5 @@
 -- The index of the first best sheet, and the sheet that the definition picks.
+use Rattle.std.specs.Prelude.{if◌then◌else◌}
 use Prim.Native.Nat.{ℕ, suc, ◌+◌, ◌-◌, ◌≤◌, ◌<◌}
 use native.Mathlib.Numerals.{add-one}
 use native.Mathlib.Omega.{arith}
@@ -9,7 +10,7 @@ use mathlib.Core.Option.{Option, some}
 use lib.ListN.{length, get_or, take}
 use lib.Seq.{get_or-take}
 use lib.Ieee.{Float}
-use Rattle.lists.specs.Base.{if◌then◌else◌, is_greater, count_from, range, enumerate, keep_best, first_best}
+use Rattle.lists.specs.Base.{is_greater, count_from, range, enumerate, keep_best, first_best}
 use Rattle.lists.proofs.Every.{all_any}
 use Rattle.lists.proofs.Counts.{range_below, enumerate_range, values}
 use Rattle.lists.proofs.Maps.{first_best_map, get_d_map}

@@ -1,4 +1,5 @@
 -- The areas on the boards, as the loop over the insertions sums them up.
+use Rattle.std.specs.Prelude.{if◌then◌else◌}
 use Prim.Native.Nat.{ℕ, ◌+◌, ◌≤◌, ◌<◌}
 use native.Mathlib.Omega.{arith}
 use mathlib.Core.Path.{◌≡◌, refl, sym, ap, ◌∙◌}
@@ -8,7 +9,7 @@ use lib.Dec.{eqb}
 use lib.ListN.{length, get_or, set, take, length-set}
 use lib.Seq.{take-length, get_or-set_same, get_or-set_other, ext_get_or}
 use borrow.Author.Tests.{eq-eqb, ne_eqb, eqb-true, eqb-false}
-use Rattle.lists.specs.Base.{if◌then◌else◌, sum, range, retain}
+use Rattle.lists.specs.Base.{sum, range, retain}
 use Rattle.lists.proofs.Sums.{sum_append}
 use Rattle.lists.proofs.Kept.{retain_append, sum_retain}
 use Rattle.lists.proofs.Counts.{get_or_range, length_count_map}

@@ -1,4 +1,5 @@
 -- The score of a candidate of words, by the areas of its sheets.
+use Rattle.std.specs.Prelude.{if◌then◌else◌}
 use Prim.Native.Nat.{ℕ, ◌-◌, ◌≤◌, ◌<◌}
 use native.Mathlib.Nat.{mul-pos}
 use native.Mathlib.Omega.{arith}
@@ -8,7 +9,7 @@ use mathlib.Core.Option.{Option, none, some, get_or}
 use lib.Dec.{eqb}
 use lib.ListN.{length, take}
 use lib.Ieee.{Float}
-use Rattle.lists.specs.Base.{if◌then◌else◌, sum}
+use Rattle.lists.specs.Base.{sum}
 use Rattle.lists.proofs.Perm.{All, all_map}
 use Rattle.lists.proofs.Sums.{length-map}
 use Rattle.model.specs.Sheet.{GuillotineSheet, placed_area}

@@ -1,7 +1,7 @@
 -- The areas of a candidate's sheets, and the sheet that is first best by them.
-use Rattle.std.specs.Prelude.{ℕ, ◌+◌, ◌*◌, ◌≤◌, ◌<◌, ◌≡◌, Bool, List, map, length, get_or, take, Float}
+use Rattle.std.specs.Prelude.{ℕ, ◌+◌, ◌*◌, ◌≤◌, ◌<◌, ◌≡◌, Bool, List, map, length, get_or, take, Float, if◌then◌else◌}
 use Rattle.std.proofs.Math.Option.{Option, some}
-use Rattle.lists.specs.Base.{if◌then◌else◌, sum, is_less, is_greater, range, enumerate, first_best}
+use Rattle.lists.specs.Base.{sum, is_less, is_greater, range, enumerate, first_best}
 use Rattle.model.specs.Types.{cut_area, stock_area}
 use Rattle.model.specs.Sheet.{GuillotineSheet, new_sheet, placed_area}
 use Rattle.model.specs.Fitness.{sheet_fitness, compare_float}

@@ -1,10 +1,11 @@
 -- Fitness is a number from 0 to 1: each step's value is at most the whole number that it would be were every sheet full, which binary64 holds, and rounding keeps the order.
+use Rattle.std.specs.Prelude.{if◌then◌else◌}
 use Rattle.std.proofs.Common.{◌≡◌, ℕ, zero, suc, ◌+◌, ◌*◌, ◌^◌, ◌<◌, ◌≤◌, Bool, true, false, not, T, eqb, List, [], ◌∷◌, get_or, take, refl, subst, zero-le, le_trans, add_assoc, mul-le-mul_right, suc-mul, arith}
 use mathlib.Core.Option
 use mathlib.Core.Option.{none, some}
 use borrow.Author.Tests.{eqb-false}
 use lib.Ieee.{Float, binary64, low, add, div, is_nan}
-use Rattle.lists.specs.Base.{if◌then◌else◌, sum}
+use Rattle.lists.specs.Base.{sum}
 use Rattle.model.specs.Fitness.{weight, positive_zero}
 use Rattle.trust.proofs.Rounding.{has_number}
 use Rattle.trust.proofs.Fractions.{Upto, part_upto, times_upto, plus_upto, quotient_upto}

@@ -1,9 +1,10 @@
 -- The definition's fitness depends only on the sheets' placed areas and board areas.
+use Rattle.std.specs.Prelude.{if◌then◌else◌}
 use Rattle.std.proofs.Common.{◌≡◌, ℕ, ◌+◌, ◌<◌, ◌≤◌, eqb, List, [], ◌∷◌, map, length, refl, ap, ◌∙◌, arith, ne_eqb}
 use mathlib.Core.Option.{none, some, get_or}
 use lib.Dec.{eqb-suc-zero}
 use lib.Ieee.{Float, binary64, add, div}
-use Rattle.lists.specs.Base.{if◌then◌else◌, sum, foldl}
+use Rattle.lists.specs.Base.{sum, foldl}
 use Rattle.lists.proofs.Perm.{All}
 use Rattle.model.specs.Types.{stock_area}
 use Rattle.model.specs.Sheet.{GuillotineSheet, placed_area}

@@ -1,9 +1,10 @@
 -- The two steps of `fit_cut_in_rects` together are the whole.
+use Rattle.std.specs.Prelude.{if◌then◌else◌}
 use mathlib.Core.Path.{◌≡◌, refl, sym, ap, ◌∙◌}
 use mathlib.Core.Bool.{Bool, true, false, not, ◌&&◌, ◌||◌}
 use mathlib.Core.List.{List, [], ◌∷◌, ◌++◌}
 use lib.Dec.{leb}
-use Rattle.lists.specs.Base.{if◌then◌else◌, is_empty}
+use Rattle.lists.specs.Base.{is_empty}
 use Rattle.model.specs.declared.PatternDirection.{PatternDirection}
 use Rattle.model.specs.declared.RotationPreference.{RotationPreference}
 use Rattle.model.specs.declared.RotationPreference.TheVariants.{PreferUpright, PreferRotated}

@@ -1,6 +1,5 @@
 -- The answer of `fit_cut_in_rects` as the list of document 01.
-use Rattle.std.specs.Prelude.{Bool, List, [], ◌∷◌}
-use Rattle.lists.specs.Base.{if◌then◌else◌}
+use Rattle.std.specs.Prelude.{Bool, List, [], ◌∷◌, if◌then◌else◌}
 use Rattle.model.specs.declared.FitResult.{FitResult}
 use Rattle.fits.specs.declared.Fits.{Fits}
 use Rattle.fits.specs.declared.Fits.TheVariants.{Nothing, One, Two}

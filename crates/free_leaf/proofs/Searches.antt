@@ -1,4 +1,5 @@
 -- The search by node numbers, in the words of a tree.
+use Rattle.std.specs.Prelude.{if◌then◌else◌}
 use mathlib.Core.Path.{◌≡◌, sym, ap, ◌∙◌, subst}
 use mathlib.Core.Bool.{Bool, true, false}
 use mathlib.Core.List.{List}
@@ -7,7 +8,6 @@ use native.Mathlib.Nat.{add-zero}
 use native.Mathlib.Omega.{arith}
 use lib.ListN.{get_or, drop}
 use lib.Seq.{get_or-take, get_or-drop}
-use Rattle.lists.specs.Base.{if◌then◌else◌}
 use Rattle.model.specs.declared.Rect.{Rect}
 use Rattle.model.specs.Types.{same_rect}
 use Rattle.model.specs.Guide.{GuideCut, SliceNode, LeafKind, cut, leaf, free, cut_piece}

@@ -1,6 +1,5 @@
 -- The search for a free leaf by node numbers, as in replace_free_leaf: first child before second.
-use Rattle.std.specs.Prelude.{ℕ, ◌+◌, ◌*◌, ◌<◌, ◌≡◌, ◌&&◌, List, eqb, length, get_or}
-use Rattle.lists.specs.Base.{if◌then◌else◌}
+use Rattle.std.specs.Prelude.{ℕ, ◌+◌, ◌*◌, ◌<◌, ◌≡◌, ◌&&◌, List, eqb, length, get_or, if◌then◌else◌}
 use Rattle.lists.specs.Parts.{part}
 use Rattle.model.specs.declared.Rect.{Rect}
 use Rattle.model.specs.Types.{rect, same_rect}

@@ -1,4 +1,5 @@
 -- A free leaf replaced in the words of a tree.
+use Rattle.std.specs.Prelude.{if◌then◌else◌}
 use mathlib.Core.Path.{◌≡◌, refl, sym, ap, ap₂, ◌∙◌}
 use mathlib.Core.Bool.{Bool, true, false}
 use mathlib.Core.List.{List, [], ◌++◌, append_assoc, append-nil}
@@ -7,7 +8,6 @@ use Prim.Native.Nat.{ℕ, ◌+◌, ◌*◌, ◌≤◌}
 use native.Mathlib.Omega.{arith}
 use lib.Dec.{T}
 use lib.ListN.{length, length-append}
-use Rattle.lists.specs.Base.{if◌then◌else◌}
 use Rattle.lists.specs.Parts.{part}
 use Rattle.lists.proofs.Parts.{part_left, part_right}
 use Rattle.model.specs.declared.Rect.{Rect}

@@ -1,4 +1,5 @@
 -- Words start with at most one guide: a node is told by its eight words, and a tree by its nodes in preorder.
+use Rattle.std.specs.Prelude.{if◌then◌else◌}
 use mathlib.Core.Path.{◌≡◌, refl, sym, ap, ◌∙◌}
 use mathlib.Core.List.{List, [], ◌++◌, append_assoc, append-nil}
 use mathlib.Core.Option.{Option, none, some}
@@ -8,7 +9,6 @@ use native.Mathlib.Omega.{arith}
 use lib.Dec.{eqb}
 use lib.ListN.{get_or, take, drop}
 use lib.Seq.{take_at, drop_at}
-use Rattle.lists.specs.Base.{if◌then◌else◌}
 use Rattle.trust.proofs.RoundTrip.{node_size_lem}
 use Rattle.model.specs.declared.Rect.{Rect}
 use Rattle.model.specs.declared.Direction.{Direction}

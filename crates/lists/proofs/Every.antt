@@ -1,4 +1,5 @@
 -- What holds of all elements of a list, and of all pairs of them.
+use Rattle.std.specs.Prelude.{if◌then◌else◌}
 use Prim.Native.Nat.{◌<◌, suc, zero, ℕ}
 use native.Mathlib.Nat.{le_of_suc-le-suc, not-suc-le-zero}
 use mathlib.Core.Path.{◌∙◌, ◌≡◌, ap, refl}
@@ -6,7 +7,7 @@ use mathlib.Core.Bool.{◌||◌, Bool, false, true}
 use mathlib.Core.List.{[], ◌++◌, ◌∷◌, List, Memᴰ, map}
 use lib.Dec.{T}
 use lib.ListN.{drop, get_or, length, take}
-use Rattle.lists.specs.Base.{any, concat_map, if◌then◌else◌, remove_at}
+use Rattle.lists.specs.Base.{any, concat_map, remove_at}
 use Rattle.lists.proofs.Perm.{All, Pairs, Perm, all_append, all_left, all_map, also, done, flip, keep}
 
 module _ {A : Type 0} where

@@ -1,10 +1,11 @@
 -- The first best of a list, by a comparison that orders its elements: better than all before it, and no worse than any after it.
+use Rattle.std.specs.Prelude.{if◌then◌else◌}
 use Prim.Native.Nat.{Ordering}
 use mathlib.Core.Path.{◌≡◌, refl, sym, ap, ◌∙◌, subst}
 use mathlib.Core.Bool.{Bool, true, false, true≢false, false≢true}
 use mathlib.Core.List.{List, [], ◌∷◌, ◌++◌, append_assoc, append-nil}
 use mathlib.Core.Option.{some, some-injective, none-ne-some}
-use Rattle.lists.specs.Base.{if◌then◌else◌, is_greater, keep_best, first_best}
+use Rattle.lists.specs.Base.{is_greater, keep_best, first_best}
 use Rattle.lists.proofs.Perm.{All, all_both, all_left, all_right, all_append}
 use Rattle.lists.proofs.Preorder.{flipped, Chained, Preorder}
 

@@ -1,4 +1,5 @@
 -- The list operations in the form that code on counted parts has, and the sizes that bound those parts.
+use Rattle.std.specs.Prelude.{if◌then◌else◌}
 use Prim.Native.Nat.{ℕ, suc, ◌-◌, ◌<◌, Ordering}
 use native.Mathlib.Nat.{not-suc-le-zero}
 use native.Mathlib.Omega.{arith}
@@ -6,7 +7,7 @@ use mathlib.Core.Path.{◌≡◌, refl, sym, ap, ◌∙◌}
 use mathlib.Core.Bool.{Bool, true, false, true≢false, false≢true}
 use mathlib.Core.List.{List, [], ◌∷◌, ◌++◌}
 use lib.ListN.{length, get_or, take, set, length-set}
-use Rattle.lists.specs.Base.{if◌then◌else◌, is_greater, last_or, drop_last, swap_remove, insert_by, sort_by}
+use Rattle.lists.specs.Base.{is_greater, last_or, drop_last, swap_remove, insert_by, sort_by}
 
 module _ {A : Type 0} where
   -- ---- swap_remove by index

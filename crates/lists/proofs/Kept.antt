@@ -1,4 +1,5 @@
 -- What is kept of a list by a test.
+use Rattle.std.specs.Prelude.{if◌then◌else◌}
 use Prim.Native.Nat.{◌+◌, ◌≤◌, suc, ℕ}
 use native.Mathlib.Omega.{arith}
 use mathlib.Core.Path.{◌∙◌, ◌≡◌, ap, refl, subst, sym}
@@ -6,7 +7,7 @@ use mathlib.Core.Bool.{Bool, false, not, true}
 use mathlib.Core.List.{[], ◌++◌, ◌∷◌, List, map}
 use lib.Dec.{T}
 use lib.ListN.{length}
-use Rattle.lists.specs.Base.{if◌then◌else◌, retain, sum}
+use Rattle.lists.specs.Base.{retain, sum}
 use Rattle.lists.proofs.Booleans.{is_false}
 use Rattle.lists.proofs.Perm.{All, Perm, all_map, also, done, flip, keep, perm_middle, perm_refl}
 

@@ -1,4 +1,5 @@
 -- A map through the other operations, and lists made of one list for each element.
+use Rattle.std.specs.Prelude.{if◌then◌else◌}
 use Prim.Native.Nat.{◌<◌, suc, zero, ℕ}
 use native.Mathlib.Nat.{le_of_suc-le-suc, not-suc-le-zero}
 use native.Mathlib.Omega.{arith}
@@ -7,7 +8,7 @@ use mathlib.Core.Bool.{Bool, false, true}
 use mathlib.Core.List.{[], ◌++◌, ◌∷◌, List, append_assoc, append-nil, map}
 use mathlib.Core.Option.{Option, none-ne-some, some-injective, some}
 use lib.ListN.{get_or, length, set, take}
-use Rattle.lists.specs.Base.{concat_map, first_best, foldl, if◌then◌else◌, keep_best, remove_at, swap}
+use Rattle.lists.specs.Base.{concat_map, first_best, foldl, keep_best, remove_at, swap}
 use Rattle.lists.proofs.Perm.{All}
 use Rattle.lists.proofs.Sums.{length-map}
 

@@ -1,5 +1,6 @@
 -- Lists up to order: what holds of all elements, of all pairs, or of a sum does not depend on the order of a list.
 -- The free rectangles are swap-removed and merged, so every law of a sheet goes through these.
+use Rattle.std.specs.Prelude.{if◌then◌else◌}
 use Prim.Native.Nat.{ℕ, zero, suc, ◌+◌, ◌<◌, Ordering}
 use native.Mathlib.Nat.{le_of_suc-le-suc, not-suc-le-zero, add_left_comm}
 use mathlib.Core.Bool.{Bool, true, false}
@@ -8,7 +9,7 @@ use mathlib.Core.Logic.{◌⊎◌, inl, inr}
 use mathlib.Core.List.Memᴰ
 use mathlib.Core.List.{List, [], ◌∷◌, ◌++◌, map, append-nil, append_assoc, Memᴰ, nil≢cons, cons≢nil, head-eq_of_cons-eq, tail-eq_of_cons-eq}
 use lib.ListN.{length, get_or, set}
-use Rattle.lists.specs.Base.{if◌then◌else◌, is_greater, sum, concat_map, last_or, drop_last, remove_at, swap_remove, swap, insert_by, sort_by}
+use Rattle.lists.specs.Base.{is_greater, sum, concat_map, last_or, drop_last, remove_at, swap_remove, swap, insert_by, sort_by}
 
 module _ {A : Type 0} where
   pub data Perm : List A → List A → Type 0 where

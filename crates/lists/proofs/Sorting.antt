@@ -1,5 +1,6 @@
 -- The sort that the source calls (`sort_by`, which is stable): a permutation, ordered, equal elements in their old order;
 -- and only one list is all three. The comparison need only be an order on the elements that are compared.
+use Rattle.std.specs.Prelude.{if◌then◌else◌}
 use Prim.Native.Nat.{Ordering}
 use mathlib.Core.Path.{◌≡◌, refl, sym, ap, ◌∙◌, subst}
 use mathlib.Core.Logic.{◌⊎◌, inl, inr}
@@ -7,7 +8,7 @@ use mathlib.Core.Bool.{Bool, true, false, false≢true}
 use mathlib.Core.List.Memᴰ
 use mathlib.Core.List.{List, [], ◌∷◌, Memᴰ, nil≢cons, cons≢nil, head-eq_of_cons-eq, tail-eq_of_cons-eq}
 use lib.Dec.{compare_is_eq}
-use Rattle.lists.specs.Base.{if◌then◌else◌, is_greater, sort_by, retain}
+use Rattle.lists.specs.Base.{is_greater, sort_by, retain}
 use Rattle.lists.proofs.Perm.{Perm, All, Pairs, all_perm, perm_sym, mem_perm, in_all, sort_by_perm}
 use Rattle.lists.proofs.Preorder.{flipped, Preorder}
 use Rattle.lists.proofs.SortOn.{sort_rises, sort_stable}

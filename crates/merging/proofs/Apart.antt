@@ -1,4 +1,5 @@
 -- That no pair merges, as a fact of every pair; it does not depend on the order of the rectangles.
+use Rattle.std.specs.Prelude.{if◌then◌else◌}
 use Prim.Native.Nat.{ℕ, suc, ◌-◌, ◌≤◌, ◌<◌}
 use native.Mathlib.Omega.{arith}
 use mathlib.Core.Path.{◌≡◌, refl, sym, ap, ◌∙◌}
@@ -6,7 +7,7 @@ use mathlib.Core.Bool.{Bool, true, false}
 use mathlib.Core.List.{List, [], ◌∷◌}
 use mathlib.Core.Option.{Option, none, some, some-injective, none-ne-some}
 use lib.ListN.{length, take}
-use Rattle.lists.specs.Base.{if◌then◌else◌, ◌<|>◌, ◌>>=◌, swap_remove}
+use Rattle.lists.specs.Base.{◌<|>◌, ◌>>=◌, swap_remove}
 use Rattle.lists.proofs.Perm.{All, Pairs, pairs_perm, swap_remove_out}
 use Rattle.lists.proofs.Every.{all_take}
 use Rattle.model.specs.declared.Rect.{Rect}

@@ -1,7 +1,7 @@
 -- What a sheet's making takes from the board's area and gives back: document 01, the loss of a split and kerf × shared side of a merge.
-use Rattle.std.specs.Prelude.{ℕ, zero, suc, ◌+◌, ◌*◌, ◌||◌, List, [], ◌∷◌, map, length, get_or}
+use Rattle.std.specs.Prelude.{ℕ, zero, suc, ◌+◌, ◌*◌, ◌||◌, List, [], ◌∷◌, map, length, get_or, if◌then◌else◌}
 use Rattle.std.proofs.Math.Option.{none, some}
-use Rattle.lists.specs.Base.{if◌then◌else◌, sum}
+use Rattle.lists.specs.Base.{sum}
 use Rattle.model.specs.Types.{Rect, area, no_rect}
 use Rattle.model.specs.Split.{split_direction, split_loss}
 use Rattle.model.specs.Merge.{below, first_pair, apply_merge}

@@ -1,7 +1,7 @@
 -- From a project file to a plan or a refusal: `optimize_with_config`.
-use Rattle.std.specs.Prelude.{ℕ, not, List, [], ◌∷◌, map, ltb}
+use Rattle.std.specs.Prelude.{ℕ, not, List, [], ◌∷◌, map, ltb, if◌then◌else◌}
 use Rattle.std.proofs.Math.Option.{Option, none, some, get_or}
-use Rattle.lists.specs.Base.{if◌then◌else◌, sum, any, all, is_empty}
+use Rattle.lists.specs.Base.{sum, any, all, is_empty}
 use Rattle.model.specs.Types.{LayoutKind, BaselineGuillotineHeuristic, StockInstance, stock_area, cut_area, layout_of, effort_of}
 use Rattle.model.specs.Fit.{cut_fits_stock}
 use Rattle.model.specs.Sheet.{Insertion, making_of}

@@ -1,8 +1,8 @@
 -- A candidate and what is done to one: `Candidate`, `StockInventory`, `CutCatalog`.
 use Prim.Native.Nat.{ℕ, ◌-◌, compare, Ordering}
-use Rattle.std.specs.Prelude.{Bool, false, not, ◌&&◌, ◌||◌, List, [], ◌∷◌, ◌++◌, map, ltb, length, Float}
+use Rattle.std.specs.Prelude.{Bool, false, not, ◌&&◌, ◌||◌, List, [], ◌∷◌, ◌++◌, map, ltb, length, Float, if◌then◌else◌}
 use Rattle.std.proofs.Math.Option.{Option, none, some, get_or}
-use Rattle.lists.specs.Base.{if◌then◌else◌, ◌>>=◌, ◌<|>◌, is_some, is_less, then_with, sum, any, retain, is_empty, find, enumerate, first_best, remove_at, foldl, concat_map, map_option}
+use Rattle.lists.specs.Base.{◌>>=◌, ◌<|>◌, is_some, is_less, then_with, sum, any, retain, is_empty, find, enumerate, first_best, remove_at, foldl, concat_map, map_option}
 use Rattle.model.specs.Types.{BaselineGuillotineHeuristic, StockInstance, CutInstance, InstanceKey, cut_area, cut_key, same_key}
 use Rattle.model.specs.Sheet.{GuillotineSheet, Insertion, new_sheet, try_insert, sheet_keys}
 use Rattle.model.specs.Fitness.{sheet_fitness, used_stock_area, fitness, compare_float, compare_fitness}

@@ -1,6 +1,6 @@
 -- Which way a cut can lie in a free rectangle: `fit_cut_in_rects` and what it calls.
-use Rattle.std.specs.Prelude.{Bool, true, false, not, ◌&&◌, ◌||◌, List, [], ◌∷◌, ◌++◌, leb, eqb}
-use Rattle.lists.specs.Base.{if◌then◌else◌, is_empty}
+use Rattle.std.specs.Prelude.{Bool, true, false, not, ◌&&◌, ◌||◌, List, [], ◌∷◌, ◌++◌, leb, eqb, if◌then◌else◌}
+use Rattle.lists.specs.Base.{is_empty}
 use Rattle.model.specs.Types.{PatternDirection, RotationPreference, Rect, StockInstance, CutInstance, FitResult, rect, stock_rect, pattern_code}
 
 unfoldable pub same_pattern : PatternDirection → PatternDirection → Bool

@@ -1,10 +1,10 @@
 -- Fitness in f64, each quotient, product and sum rounded once: `fitness` of a bin and of a candidate.
 use Prim.Native.Nat.{ℕ, Ordering}
-use Rattle.std.specs.Prelude.{List, map, eqb, pos, Float, false}
+use Rattle.std.specs.Prelude.{List, map, eqb, pos, Float, false, if◌then◌else◌}
 use Rattle.std.proofs.Math.Option.{Option, none, some}
 use Rattle.std.specs.Float.{fin, binary64}
 use Rattle.std.specs.Float.Ieee.{of_int, add, mul, div, lt}
-use Rattle.lists.specs.Base.{if◌then◌else◌, sum, foldl}
+use Rattle.lists.specs.Base.{sum, foldl}
 use Rattle.model.specs.Types.{stock_area}
 use Rattle.model.specs.Sheet.{GuillotineSheet, placed_area}
 

@@ -1,7 +1,7 @@
 -- The cutting guide: `GuillotineSliceNode`, `Cut::new`, `guillotine_insert_subtree`, `replace_free_leaf`.
-use Rattle.std.specs.Prelude.{ℕ, ◌+◌, ◌||◌, List, [], ◌∷◌, leb, eqb}
+use Rattle.std.specs.Prelude.{ℕ, ◌+◌, ◌||◌, List, [], ◌∷◌, leb, eqb, if◌then◌else◌}
 use Rattle.std.proofs.Math.Option.{Option, none, some}
-use Rattle.lists.specs.Base.{if◌then◌else◌, ◌<|>◌, ◌>>=◌}
+use Rattle.lists.specs.Base.{◌<|>◌, ◌>>=◌}
 use Rattle.model.specs.Types.{Direction, Rect, CutInstance, InstanceKey, rect, cut_key, same_rect}
 use Rattle.model.specs.Split.{bottom_remainder, right_remainder}
 

@@ -1,7 +1,7 @@
 -- Two free rectangles a kerf apart with a whole side in common become one: `merge_adjacent_rects`, `merge_free_rects`.
-use Rattle.std.specs.Prelude.{ℕ, zero, suc, ◌+◌, Bool, ◌&&◌, List, [], ◌∷◌, eqb, length, set}
+use Rattle.std.specs.Prelude.{ℕ, zero, suc, ◌+◌, Bool, ◌&&◌, List, [], ◌∷◌, eqb, length, set, if◌then◌else◌}
 use Rattle.std.proofs.Math.Option.{Option, none, some}
-use Rattle.lists.specs.Base.{if◌then◌else◌, ◌<|>◌, ◌>>=◌, is_some, swap_remove}
+use Rattle.lists.specs.Base.{◌<|>◌, ◌>>=◌, is_some, swap_remove}
 use Rattle.model.specs.Types.{Rect, rect, no_rect}
 
 -- the second rectangle lies right below the first, or right beside it on the right, a kerf away

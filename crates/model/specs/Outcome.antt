@@ -1,6 +1,6 @@
 -- What a call of the entry answers and leaves: refusal 1, and the memory rules of document 01, over the file and the two lent memories.
-use Rattle.std.specs.Prelude.{ℕ, Bool, not, ◌&&◌, ◌||◌, List, ◌++◌, ltb, length, drop, replicate}
-use Rattle.lists.specs.Base.{if◌then◌else◌, is_empty, is_some}
+use Rattle.std.specs.Prelude.{ℕ, Bool, not, ◌&&◌, ◌||◌, List, ◌++◌, ltb, length, drop, replicate, if◌then◌else◌}
+use Rattle.lists.specs.Base.{is_empty, is_some}
 use Rattle.model.specs.Project.{project_of}
 use Rattle.model.specs.Refusal.{file_refusal}
 use Rattle.model.specs.Expand.{expand_project}

@@ -1,9 +1,9 @@
 -- The plan of document 01 as u32 words.
-use Rattle.std.specs.Prelude.{ℕ, ◌+◌, ◌*◌, ◌/◌, ◌%◌, ◌^◌, ◌&&◌, List, [], ◌∷◌, ◌++◌, map, leb, ltb, length, get_or, take, drop, Float}
+use Rattle.std.specs.Prelude.{ℕ, ◌+◌, ◌*◌, ◌/◌, ◌%◌, ◌^◌, ◌&&◌, List, [], ◌∷◌, ◌++◌, map, leb, ltb, length, get_or, take, drop, Float, if◌then◌else◌}
 use Rattle.std.proofs.Math.Option.{Option, none, some}
 use Rattle.std.specs.Float.{binary64}
 use Rattle.std.specs.Float.Ieee.{to_bits}
-use Rattle.lists.specs.Base.{if◌then◌else◌, sum, concat_map}
+use Rattle.lists.specs.Base.{sum, concat_map}
 use Rattle.model.specs.Types.{LayoutKind, Direction, Rect, stock_area, pattern_code, layout_code, direction_code, flag_code}
 use Rattle.model.specs.Guide.{SliceNode, cut, leaf, free, cut_piece}
 use Rattle.model.specs.Sheet.{GuillotineSheet, PlacedPiece, placed_area}

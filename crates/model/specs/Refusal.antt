@@ -1,8 +1,8 @@
 -- The order of checks of document 01, from 2 to 14, as one table: the first that applies is given.
 -- (1 is about lent memory: `Outcome`. 15 to 17 are the search's: `Answer`.)
-use Rattle.std.specs.Prelude.{ℕ, ◌+◌, Bool, not, ◌&&◌, ◌||◌, List, [], ◌∷◌, ◌++◌, map, ltb, eqb}
+use Rattle.std.specs.Prelude.{ℕ, ◌+◌, Bool, not, ◌&&◌, ◌||◌, List, [], ◌∷◌, ◌++◌, map, ltb, eqb, if◌then◌else◌}
 use Rattle.std.proofs.Math.Option.{Option, none, some}
-use Rattle.lists.specs.Base.{if◌then◌else◌, ◌<|>◌, sum, any, is_empty}
+use Rattle.lists.specs.Base.{◌<|>◌, sum, any, is_empty}
 use Rattle.model.specs.Project.{Piece, Project, project_of, well_formed}
 
 -- a row of the table: a refusal's number, and whether its condition holds

@@ -1,9 +1,9 @@
 -- A sheet and an insertion into it: `GuillotineSheet`, `new`, `try_insert`.
 -- A sheet is its state, as in the source. Each placed piece also keeps its cut and the heuristic that placed it (added):
 -- the sheet's making, from which the sheet can be rebuilt.
-use Rattle.std.specs.Prelude.{ℕ, Bool, List, [], ◌∷◌, ◌++◌, map}
+use Rattle.std.specs.Prelude.{ℕ, Bool, List, [], ◌∷◌, ◌++◌, map, if◌then◌else◌}
 use Rattle.std.proofs.Math.Option.{Option, none, some}
-use Rattle.lists.specs.Base.{if◌then◌else◌, ◌>>=◌, is_less, lexicographic, sum, enumerate, concat_map, first_best, fold_option, swap_remove}
+use Rattle.lists.specs.Base.{◌>>=◌, is_less, lexicographic, sum, enumerate, concat_map, first_best, fold_option, swap_remove}
 use Rattle.model.specs.Types.{BaselineGuillotineHeuristic, Rect, StockInstance, CutInstance, InstanceKey, FitResult, area, no_rect, stock_rect, cut_key}
 use Rattle.model.specs.Fit.{fit_cut_in_rects}
 use Rattle.model.specs.Choice.{free_rect_choice_score}

@@ -1,6 +1,5 @@
 -- What is left of a free rectangle once a piece lies at its corner: `split_direction`, `split_horizontal`, `split_vertical`.
-use Rattle.std.specs.Prelude.{ℕ, ◌+◌, ◌-◌, ◌*◌, min, List, [], ◌∷◌, ◌++◌, leb, ltb}
-use Rattle.lists.specs.Base.{if◌then◌else◌}
+use Rattle.std.specs.Prelude.{ℕ, ◌+◌, ◌-◌, ◌*◌, min, List, [], ◌∷◌, ◌++◌, leb, ltb, if◌then◌else◌}
 use Rattle.model.specs.Types.{GuillotineSplitHeuristic, Direction, Rect, rect}
 
 -- split_direction

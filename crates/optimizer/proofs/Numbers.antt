@@ -1,11 +1,12 @@
 -- Refusals are numbered 1 to 17, so the number 0 is free for a plan.
+use Rattle.std.specs.Prelude.{if◌then◌else◌}
 use Prim.Native.Nat.{ℕ, ◌+◌}
 use mathlib.Core.Path.{◌≡◌, refl, subst}
 use mathlib.Core.Bool.{Bool, true, false, ◌&&◌}
 use mathlib.Core.List.{List, [], ◌∷◌, ◌++◌}
 use mathlib.Core.Option.{Option, none, some, some-injective, none-ne-some}
 use lib.Dec.{T, ltb}
-use Rattle.lists.specs.Base.{if◌then◌else◌, ◌<|>◌, is_empty}
+use Rattle.lists.specs.Base.{◌<|>◌, is_empty}
 use Rattle.lists.proofs.Perm.{All, all_append}
 use Rattle.model.specs.declared.LayoutKind.{LayoutKind}
 use Rattle.model.specs.Types.{layout_of, effort_of}

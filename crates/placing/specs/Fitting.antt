@@ -1,7 +1,7 @@
 -- An insertion on a board, and the first board that takes one.
-use Rattle.std.specs.Prelude.{ℕ, ◌*◌, ◌≤◌, ◌<◌, ◌≡◌, Bool, List, map, length, get_or, take, drop}
+use Rattle.std.specs.Prelude.{ℕ, ◌*◌, ◌≤◌, ◌<◌, ◌≡◌, Bool, List, map, length, get_or, take, drop, if◌then◌else◌}
 use Rattle.std.proofs.Math.Option.{none, some}
-use Rattle.lists.specs.Base.{if◌then◌else◌, is_some}
+use Rattle.lists.specs.Base.{is_some}
 use Rattle.lists.proofs.Perm.{All, Pairs}
 use Rattle.model.specs.declared.PatternDirection.{PatternDirection}
 use Rattle.model.specs.declared.StockInstance.{StockInstance}

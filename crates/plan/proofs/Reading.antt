@@ -1,4 +1,5 @@
 -- One sheet's part of a plan: where it is, and where there is none.
+use Rattle.std.specs.Prelude.{if◌then◌else◌}
 use Prim.Native.Nat.{ℕ, ◌+◌, ◌≤◌, ◌<◌}
 use mathlib.Core.Path.{◌≡◌, refl}
 use mathlib.Core.Bool.{Bool, true, false, ◌&&◌}
@@ -6,7 +7,6 @@ use mathlib.Core.List.{List, []}
 use lib.Dec.{leb, ltb}
 use lib.ListN.{length, get_or, take, drop}
 use borrow.Author.Tests.{leb-true, ltb-true}
-use Rattle.lists.specs.Base.{if◌then◌else◌}
 use Rattle.model.specs.Plan.{entry_of, part_of, sheet_part}
 
 module _ (p : List ℕ) (k : ℕ) where

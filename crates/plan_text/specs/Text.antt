@@ -1,6 +1,6 @@
 -- The text of a plan as `cutplan` prints it: document 01, "Plan". The fields of a line follow the plan's order.
-use Rattle.std.specs.Prelude.{ℕ, ◌+◌, ◌*◌, ◌^◌, List, [], ◌∷◌, ◌++◌, length}
-use Rattle.lists.specs.Base.{if◌then◌else◌, concat_map}
+use Rattle.std.specs.Prelude.{ℕ, ◌+◌, ◌*◌, ◌^◌, List, [], ◌∷◌, ◌++◌, length, if◌then◌else◌}
+use Rattle.lists.specs.Base.{concat_map}
 use Rattle.model.specs.declared.Rect.{Rect}
 use Rattle.model.specs.declared.InstanceKey.{InstanceKey}
 use Rattle.model.specs.Plan.{rect_words}

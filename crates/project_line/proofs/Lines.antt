@@ -1,4 +1,5 @@
 -- What a line says, field by field: each law is one way through a reader.
+use Rattle.std.specs.Prelude.{if◌then◌else◌}
 use Prim.Native.Nat.{ℕ, ◌-◌, ◌≤◌, ◌<◌}
 use native.Mathlib.Omega.{arith}
 use mathlib.Core.Path.{◌≡◌, refl, sym, ap, ◌∙◌}
@@ -6,7 +7,7 @@ use mathlib.Core.Bool.{true, false}
 use mathlib.Core.List.{List, [], ◌∷◌}
 use mathlib.Core.Option.{Option, none, some}
 use lib.ListN.{length, take, drop, length-take, length-drop}
-use Rattle.lists.specs.Base.{if◌then◌else◌, is_empty}
+use Rattle.lists.specs.Base.{is_empty}
 use Rattle.append.specs.Ascii.{ascii}
 use Rattle.project_line.specs.declared.Setting.{Setting}
 use Rattle.project_line.specs.declared.Kind.{Kind}

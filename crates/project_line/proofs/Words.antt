@@ -1,4 +1,5 @@
 -- Words of a line, by places in it.
+use Rattle.std.specs.Prelude.{if◌then◌else◌}
 use Prim.Native.Nat.{ℕ, suc, ◌+◌, ◌-◌, ◌*◌, ◌≤◌, ◌<◌, min}
 use native.Mathlib.Numerals.{add-one}
 use native.Mathlib.Omega.{arith}
@@ -9,7 +10,6 @@ use mathlib.Core.Option.{none, some}
 use lib.Dec.{leb, eqb}
 use lib.ListN.{length, get_or, take, drop, drop_of_length-le}
 use lib.Seq.{drop-cons, drop-drop}
-use Rattle.lists.specs.Base.{if◌then◌else◌}
 use Rattle.lists.proofs.Booleans.{both}
 use Rattle.lists.proofs.Arrays.{drop_least}
 use Rattle.project_line.specs.declared.Stop.{Stop}

@@ -1,8 +1,8 @@
 -- What a line says. The keywords are `kerf N`, `layout guillotine|nested`, `effort fast|balanced|thorough`, `unit mm|inch|foot`,
 -- `board ID WIDTH LENGTH [x QUANTITY] [grain width|length]` and `panel ID WIDTH LENGTH [x QUANTITY] [grain width|length] [turn]`.
-use Rattle.std.specs.Prelude.{ℕ, ◌-◌, ◌^◌, List, [], ◌∷◌, drop}
+use Rattle.std.specs.Prelude.{ℕ, ◌-◌, ◌^◌, List, [], ◌∷◌, drop, if◌then◌else◌}
 use Rattle.std.proofs.Math.Option.{Option, none, some}
-use Rattle.lists.specs.Base.{if◌then◌else◌, ◌>>=◌, is_empty}
+use Rattle.lists.specs.Base.{◌>>=◌, is_empty}
 use Rattle.append.specs.Ascii.{ascii}
 use Rattle.project_line.specs.declared.Found.{Found}
 use Rattle.project_line.specs.declared.Taken.{Taken}

@@ -1,4 +1,5 @@
 -- The lines of a text, one after the other.
+use Rattle.std.specs.Prelude.{if◌then◌else◌}
 use Prim.Native.Nat.{ℕ, suc, ◌+◌, ◌-◌, ◌≤◌, ◌<◌}
 use native.Mathlib.Omega.{arith}
 use mathlib.Core.Path.{◌≡◌, refl, sym, ap, ◌∙◌}
@@ -8,7 +9,6 @@ use mathlib.Core.Option.{Option, none, some}
 use lib.Dec.{eqb}
 use lib.ListN.{length, get_or, take, drop, drop_of_length-le}
 use lib.Seq.{drop-cons, drop-drop}
-use Rattle.lists.specs.Base.{if◌then◌else◌}
 use Rattle.project_line.specs.declared.Line.{Line}
 use Rattle.project_line.specs.declared.Reason.{Reason}
 use Rattle.project_line.specs.declared.Stop.{Stop}

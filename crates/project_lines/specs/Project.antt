@@ -1,8 +1,8 @@
 -- What a text says: its lines in order, each of them understood, make a project file; the first that is not is named. A later setting of a
 -- kind takes the place of an earlier one. Whether the planner takes the project is the planner's to say.
-use Rattle.std.specs.Prelude.{ℕ, ◌+◌, ◌*◌, List, [], ◌∷◌, ◌++◌, eqb, ltb, length}
+use Rattle.std.specs.Prelude.{ℕ, ◌+◌, ◌*◌, List, [], ◌∷◌, ◌++◌, eqb, ltb, length, if◌then◌else◌}
 use Rattle.std.proofs.Math.Option.{Option, none, some}
-use Rattle.lists.specs.Base.{if◌then◌else◌, concat_map}
+use Rattle.lists.specs.Base.{concat_map}
 use Rattle.model.specs.FileOf.{bytes_of}
 use Rattle.project_line.specs.declared.Kind.{Kind}
 use Rattle.project_line.specs.declared.Line.{Line}

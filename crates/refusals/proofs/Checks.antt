@@ -1,4 +1,5 @@
 -- The table of refusals, row by row.
+use Rattle.std.specs.Prelude.{if◌then◌else◌}
 use Prim.Native.Nat.{ℕ, zero, suc, ◌+◌, ◌-◌, ◌*◌, ◌≤◌, ◌<◌}
 use native.Mathlib.Numerals.{add-one}
 use native.Mathlib.Omega.{arith}
@@ -9,7 +10,7 @@ use mathlib.Core.Option.{Option, none, some}
 use lib.Dec.{eqb, ltb}
 use lib.ListN.{length}
 use borrow.Author.Tests.{lt-ltb, le-ltb, eq-eqb, ne_eqb}
-use Rattle.lists.specs.Base.{if◌then◌else◌, ◌<|>◌, any}
+use Rattle.lists.specs.Base.{◌<|>◌, any}
 use Rattle.model.specs.Project.{Piece, Project, number, piece_at, record_length, quantity_field, start_of, length_of, settings_entry, stock_entry, cuts_entry, settings_start, settings_length, stock_start, stock_length, cuts_start, cuts_length, body_length, well_formed}
 use Rattle.model.specs.Refusal.{Check, first_that_applies, bad_codes, zero_side, large_side, unlimited, RecordRule, stock_rule, cut_rule, record_checks, most_side, settings_checks}
 use Rattle.project.specs.Records.{record_at, records_from}

@@ -1,4 +1,5 @@
 -- The cuts' lengths, read from a guide's words.
+use Rattle.std.specs.Prelude.{if◌then◌else◌}
 use mathlib.Core.Path.{◌≡◌, refl, sym, ap, ◌∙◌}
 use mathlib.Core.List.{List, [], ◌∷◌, ◌++◌, map}
 use mathlib.Core.Option.{Option}
@@ -8,7 +9,7 @@ use native.Mathlib.Omega.{arith}
 use lib.Dec.{eqb}
 use lib.ListN.{length, get_or, take, drop, drop_of_length-le}
 use lib.Seq.{drop-cons, drop-drop}
-use Rattle.lists.specs.Base.{if◌then◌else◌, sum, concat_map}
+use Rattle.lists.specs.Base.{sum, concat_map}
 use Rattle.lists.proofs.Parts.{part_left, part_right}
 use Rattle.trust.proofs.RoundTrip.{node_size_lem}
 use Rattle.model.specs.declared.Rect.{Rect}

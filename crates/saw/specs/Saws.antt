@@ -1,7 +1,7 @@
 -- The lengths of a guide's cuts, in words and in the definition.
-use Rattle.std.specs.Prelude.{ℕ, ◌+◌, ◌*◌, ◌<◌, ◌^◌, ◌≡◌, List, map, eqb, get_or}
+use Rattle.std.specs.Prelude.{ℕ, ◌+◌, ◌*◌, ◌<◌, ◌^◌, ◌≡◌, List, map, eqb, get_or, if◌then◌else◌}
 use Rattle.std.proofs.Math.Option.{Option}
-use Rattle.lists.specs.Base.{if◌then◌else◌, sum}
+use Rattle.lists.specs.Base.{sum}
 use Rattle.model.specs.Guide.{SliceNode}
 use Rattle.model.specs.Plan.{nodes_of, saw_length}
 use Rattle.subtree.specs.Words.{Holds}

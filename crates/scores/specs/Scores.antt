@@ -1,8 +1,7 @@
 -- What the declared score and ordering mean in `model`.
 use Prim.Native.Nat.{Ordering as Order}
 use Rattle.std.proofs.Math.Option.{none, some}
-use Rattle.std.specs.Prelude.{◌==◌}
-use Rattle.lists.specs.Base.{if◌then◌else◌}
+use Rattle.std.specs.Prelude.{◌==◌, if◌then◌else◌}
 use Rattle.model.specs.Candidate.{CandidateScore as Score}
 use Rattle.scores.specs.declared.Ordering.{Ordering}
 use Rattle.scores.specs.declared.CandidateScore.{CandidateScore}

@@ -1,7 +1,8 @@
 -- The seeds one by one: those of the sorted order, one for each row that is used, and then the shuffles.
+use Rattle.std.specs.Prelude.{if◌then◌else◌}
 use Rattle.std.proofs.Common.{◌≡◌, ℕ, zero, suc, ◌+◌, ◌-◌, ◌<◌, ◌≤◌, Bool, true, false, List, [], ◌∷◌, ◌++◌, map, length, get_or, drop, sym, refl, ap, ◌∙◌, subst, not-suc-le-zero, arith, length-append, length-take-le, get_or-take, take_at, get_or-append-add}
 use lib.ListN.{get_or-append, get_or-eq_default}
-use Rattle.lists.specs.Base.{if◌then◌else◌, range}
+use Rattle.lists.specs.Base.{range}
 use Rattle.lists.proofs.Perm.{Perm, also, length_perm}
 use Rattle.lists.proofs.Sums.{length-map, length_count_from}
 use Rattle.lists.proofs.Maps.{get_d_map, map-map}

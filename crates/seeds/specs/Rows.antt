@@ -1,6 +1,5 @@
 -- The declared numbers and rows as those of the definition.
-use Rattle.std.specs.Prelude.{ℕ, ◌+◌, ◌-◌, List, take}
-use Rattle.lists.specs.Base.{if◌then◌else◌}
+use Rattle.std.specs.Prelude.{ℕ, ◌+◌, ◌-◌, List, take, if◌then◌else◌}
 use Rattle.model.specs.declared.BaselineGuillotineHeuristic.{BaselineGuillotineHeuristic}
 use Rattle.model.specs.Search.{SearchNumbers as Numbers}
 use Rattle.seeds.specs.declared.SearchNumbers.{SearchNumbers}

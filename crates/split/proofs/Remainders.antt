@@ -1,4 +1,5 @@
 -- What a split leaves: at most one rectangle each way, in range.
+use Rattle.std.specs.Prelude.{if◌then◌else◌}
 use Prim.Native.Nat.{ℕ, ◌-◌, ◌≤◌, ◌<◌}
 use native.Mathlib.Omega.{arith}
 use mathlib.Core.Path.{◌≡◌, refl}
@@ -7,7 +8,7 @@ use mathlib.Core.List.{List, [], ◌∷◌}
 use lib.Dec.{ltb}
 use lib.ListN.{length}
 use borrow.Author.Tests.{ltb-true}
-use Rattle.lists.specs.Base.{if◌then◌else◌, swap_remove}
+use Rattle.lists.specs.Base.{swap_remove}
 use Rattle.lists.proofs.Perm.{All, all_append, all_perm, swap_remove_out}
 use Rattle.model.specs.declared.Rect.{Rect}
 use Rattle.model.specs.declared.Direction.{Direction}

@@ -1,6 +1,5 @@
 -- The remainders of a split as what `split_free_rect_in_direction` pushes of them.
-use Rattle.std.specs.Prelude.{ℕ, ◌+◌, ◌-◌, List, [], ◌∷◌, ltb}
-use Rattle.lists.specs.Base.{if◌then◌else◌}
+use Rattle.std.specs.Prelude.{ℕ, ◌+◌, ◌-◌, List, [], ◌∷◌, ltb, if◌then◌else◌}
 use Rattle.model.specs.declared.Rect.{Rect}
 use Rattle.split.specs.declared.Remainder.{Remainder}
 use Rattle.split.specs.declared.Remainder.TheVariants as remainder

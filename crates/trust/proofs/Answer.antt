@@ -1,10 +1,11 @@
 -- The whole: a plan is the words of a winner, and that winner has all that demand 3 asks.
+use Rattle.std.specs.Prelude.{if◌then◌else◌}
 use Prim.Native.Nat.{ℕ}
 use mathlib.Core.Path.{◌≡◌, refl, sym, ap, subst}
 use mathlib.Core.Logic.{◌⊎◌, inl, inr}
 use mathlib.Core.List.{List, [], ◌∷◌, map}
 use mathlib.Core.Option.{Option, none, some, get_or}
-use Rattle.lists.specs.Base.{if◌then◌else◌, is_empty}
+use Rattle.lists.specs.Base.{is_empty}
 use Rattle.model.specs.declared.BaselineGuillotineHeuristic.{BaselineGuillotineHeuristic}
 use Rattle.model.specs.declared.LayoutKind.{LayoutKind}
 use Rattle.model.specs.declared.CutInstance.{CutInstance}

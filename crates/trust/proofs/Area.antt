@@ -1,4 +1,5 @@
 -- The area of a sheet's rectangles: an insertion takes the loss of its split and gives back what its merges do.
+use Rattle.std.specs.Prelude.{if◌then◌else◌}
 use Prim.Native.Nat.{ℕ, zero, suc, ◌+◌, ◌-◌, ◌*◌, ◌≤◌, ◌<◌, min}
 use native.Mathlib.Nat.{mul-add, add-mul, mul_comm, min-eq_left, min-eq_right, le_of_lt}
 use native.Mathlib.Omega.{arith}
@@ -8,7 +9,7 @@ use mathlib.Core.List.{List, [], ◌∷◌, ◌++◌, map}
 use mathlib.Core.Option.{Option, none, some, some-injective, none-ne-some}
 use lib.Dec.{T, ltb, ltb→lt, nltb→le}
 use lib.ListN.{get_or}
-use Rattle.lists.specs.Base.{if◌then◌else◌, sum}
+use Rattle.lists.specs.Base.{sum}
 use Rattle.model.specs.declared.Rect.{Rect}
 use Rattle.model.specs.declared.Direction.{Direction}
 use Rattle.model.specs.Types.{area, no_rect}

@@ -1,4 +1,5 @@
 -- What the file's checks leave of the instance: positive sides (6), and ids, hence keys, of one's own (9).
+use Rattle.std.specs.Prelude.{if◌then◌else◌}
 use Prim.Native.Nat.{ℕ, zero, suc, ◌+◌, ◌<◌}
 use native.Mathlib.Omega.{arith}
 use mathlib.Core.Path.{◌≡◌, refl, sym}
@@ -8,7 +9,7 @@ use mathlib.Core.List.{List, [], ◌∷◌, ◌++◌}
 use mathlib.Core.Option.{Option, none, some, some-ne-none}
 use lib.Dec.{T, eqb}
 use borrow.Author.Tests.{eqb-false, ne_eqb}
-use Rattle.lists.specs.Base.{if◌then◌else◌, ◌<|>◌, any, range, concat_map}
+use Rattle.lists.specs.Base.{◌<|>◌, any, range, concat_map}
 use Rattle.model.specs.declared.StockInstance.{StockInstance}
 use Rattle.model.specs.declared.CutInstance.{CutInstance}
 use Rattle.model.specs.declared.InstanceKey.{InstanceKey}

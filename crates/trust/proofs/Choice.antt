@@ -1,4 +1,5 @@
 -- The place that an insertion takes is a choice after Jylänki: no place measures less by the paper's measure of the heuristic.
+use Rattle.std.specs.Prelude.{if◌then◌else◌}
 use Prim.Native.Nat.{ℕ, ◌*◌, ◌≤◌, compare, Ordering}
 use native.Mathlib.Nat.{le_refl, le_trans, le_of_lt, le_of_eq, mul_comm, mul-le-mul}
 use native.Mathlib.Omega.{arith}
@@ -7,7 +8,7 @@ use mathlib.Core.Bool.{Bool, true, false, not, true≢false, false≢true}
 use mathlib.Core.List.{List, [], ◌∷◌}
 use mathlib.Core.Option.{some, some-injective}
 use lib.Dec.{T, is_le, compare_is_eq, leb→le, nleb→lt, eqb→eq}
-use Rattle.lists.specs.Base.{if◌then◌else◌, is_less, then_with, lexicographic, keep_best, first_best}
+use Rattle.lists.specs.Base.{is_less, then_with, lexicographic, keep_best, first_best}
 use Rattle.model.specs.declared.GuillotineRectChoice.{GuillotineRectChoice}
 use Rattle.model.specs.declared.Rect.{Rect}
 use Rattle.model.specs.declared.CutInstance.{CutInstance}

@@ -1,4 +1,5 @@
 -- The place that the source takes is a choice of Jylänki's measure, and it takes one wherever a free rectangle holds the piece.
+use Rattle.std.specs.Prelude.{if◌then◌else◌}
 use Prim.Native.Nat.{ℕ, zero, suc, ◌≤◌, ◌<◌}
 use native.Mathlib.Nat.{le_of_suc-le-suc, not-suc-le-zero}
 use mathlib.Core.Path.{◌≡◌, refl, sym, ap, subst}
@@ -9,7 +10,7 @@ use mathlib.Core.List.{List, [], ◌∷◌, map, Memᴰ}
 use mathlib.Core.Option.{none, some, some-ne-none}
 use lib.Dec.{T, leb, eqb, le→leb, eqb→eq}
 use lib.ListN.{length, get_or}
-use Rattle.lists.specs.Base.{if◌then◌else◌, concat_map, enumerate_from, first_best}
+use Rattle.lists.specs.Base.{concat_map, enumerate_from, first_best}
 use Rattle.model.specs.declared.PatternDirection.{PatternDirection}
 use Rattle.model.specs.declared.RotationPreference.{RotationPreference}
 use Rattle.model.specs.declared.Rect.{Rect}

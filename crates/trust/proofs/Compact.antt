@@ -1,4 +1,5 @@
 -- Compaction keeps every board and every panel.
+use Rattle.std.specs.Prelude.{if◌then◌else◌}
 use Prim.Native.Nat.{ℕ}
 use mathlib.Core.Path.{◌≡◌, refl, sym, ap, ◌∙◌, subst}
 use mathlib.Core.Bool.{Bool, true, false}
@@ -7,7 +8,7 @@ use mathlib.Core.List.{List, [], ◌∷◌, ◌++◌, append_assoc, append-nil, 
 use mathlib.Core.Option.{Option, none, some, get_or, some-injective}
 use lib.Dec.{ltb}
 use lib.ListN.{length}
-use Rattle.lists.specs.Base.{if◌then◌else◌, enumerate, remove_at, concat_map}
+use Rattle.lists.specs.Base.{enumerate, remove_at, concat_map}
 use Rattle.model.specs.declared.StockInstance.{StockInstance}
 use Rattle.model.specs.declared.CutInstance.{CutInstance}
 use Rattle.model.specs.Sheet.{GuillotineSheet, sheet_keys}

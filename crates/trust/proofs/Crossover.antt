@@ -1,4 +1,5 @@
 -- A crossover child keeps every board and every panel: the donor's sheet rebuilt on its board, the other boards, the other panels unused.
+use Rattle.std.specs.Prelude.{if◌then◌else◌}
 use Prim.Native.Nat.{ℕ}
 use mathlib.Core.Path.{◌≡◌, refl, sym, ap, ◌∙◌, subst}
 use mathlib.Core.Logic.{◌⊎◌, inl, inr}
@@ -6,7 +7,7 @@ use mathlib.Core.Bool.{Bool, true, false, not, ◌||◌}
 use mathlib.Core.List.{List, [], ◌∷◌, ◌++◌, map, append-nil, Memᴰ}
 use mathlib.Core.Option.{none, some, some-injective, none-ne-some}
 use lib.Dec.{T, T_not, not_T}
-use Rattle.lists.specs.Base.{if◌then◌else◌, ◌<|>◌, to_list, any, retain, find, enumerate, remove_at, concat_map}
+use Rattle.lists.specs.Base.{◌<|>◌, to_list, any, retain, find, enumerate, remove_at, concat_map}
 use Rattle.model.specs.declared.BaselineGuillotineHeuristic.{BaselineGuillotineHeuristic}
 use Rattle.model.specs.declared.StockInstance.{StockInstance}
 use Rattle.model.specs.declared.CutInstance.{CutInstance}

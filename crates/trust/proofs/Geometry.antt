@@ -1,4 +1,5 @@
 -- Rectangles a kerf apart, inside one another, and what a split and a merge do to that.
+use Rattle.std.specs.Prelude.{if◌then◌else◌}
 use Prim.Native.Nat.{ℕ, ◌+◌, ◌≤◌, ◌<◌}
 use native.Mathlib.Omega.{arith}
 use mathlib.Core.Path.{◌≡◌, refl, sym, subst}
@@ -6,7 +7,6 @@ use mathlib.Core.Logic.{◌⊎◌, inl, inr}
 use mathlib.Core.Bool.{Bool, true, false, ◌&&◌}
 use mathlib.Core.Option.{none, some, some-injective, none-ne-some}
 use lib.Dec.{T, eqb, eqb→eq}
-use Rattle.lists.specs.Base.{if◌then◌else◌}
 use Rattle.model.specs.declared.Rect.{Rect}
 use Rattle.model.specs.Merge.{below, beside, stacked, joined, merge_adjacent_rects}
 use Rattle.trust.proofs.Truth.{and_split}

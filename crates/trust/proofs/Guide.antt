@@ -1,4 +1,5 @@
 -- The guide: its leaves are exactly the pieces and the waste, and it is there exactly if no insertion merged.
+use Rattle.std.specs.Prelude.{if◌then◌else◌}
 use Prim.Native.Nat.{ℕ, ◌+◌, ◌-◌, ◌<◌}
 use native.Mathlib.Omega.{arith}
 use mathlib.Core.Path.{◌≡◌, refl, sym, ◌∙◌, subst, subst₂}
@@ -9,7 +10,7 @@ use mathlib.Core.List.{List, [], ◌∷◌, ◌++◌, append-nil, append_assoc, 
 use mathlib.Core.Option.{Option, none, some, some-injective, none-ne-some}
 use lib.Dec.{T, eqb, ltb, ltb→lt, eqb→eq, eqb_refl}
 use borrow.Author.Tests.{ne_eqb, lt-leb}
-use Rattle.lists.specs.Base.{if◌then◌else◌, ◌>>=◌, ◌<|>◌}
+use Rattle.lists.specs.Base.{◌>>=◌, ◌<|>◌}
 use Rattle.model.specs.declared.Rect.{Rect}
 use Rattle.model.specs.declared.Direction.{Direction}
 use Rattle.model.specs.declared.CutInstance.{CutInstance}

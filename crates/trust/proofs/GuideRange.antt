@@ -1,4 +1,5 @@
 -- Every node of a guide lies in the board: a cut's work rectangle with an offset and a kerf inside it, and a leaf's rectangle with the key of a panel.
+use Rattle.std.specs.Prelude.{if◌then◌else◌}
 use Prim.Native.Nat.{ℕ, ◌+◌, ◌^◌, ◌≤◌, ◌<◌}
 use native.Mathlib.Omega.{arith}
 use mathlib.Core.Path.{◌≡◌, refl, subst}
@@ -7,7 +8,7 @@ use mathlib.Core.List.{List, [], ◌∷◌}
 use mathlib.Core.Option.{Option, none, some, some-injective, none-ne-some}
 use lib.Dec.{T, eqb, leb}
 use borrow.Author.Tests.{leb-false}
-use Rattle.lists.specs.Base.{if◌then◌else◌, ◌>>=◌}
+use Rattle.lists.specs.Base.{◌>>=◌}
 use Rattle.model.specs.declared.Rect.{Rect}
 use Rattle.model.specs.declared.Direction.{Direction}
 use Rattle.model.specs.declared.CutInstance.{CutInstance}

@@ -1,11 +1,12 @@
 -- A sheet's guide along its making: there exactly if no insertion merged, and then its leaves are exactly the pieces and the waste.
+use Rattle.std.specs.Prelude.{if◌then◌else◌}
 use Prim.Native.Nat.{ℕ, zero, suc, ◌<◌}
 use mathlib.Core.Path.{◌≡◌, refl, sym, ap, ◌∙◌, subst}
 use mathlib.Core.Bool.{Bool, true, false, ◌||◌, or_assoc, or-false, true≢false}
 use mathlib.Core.List.{List, [], ◌∷◌, ◌++◌, map, Memᴰ}
 use mathlib.Core.Option.{Option, none, some, some-injective}
 use lib.ListN.{length}
-use Rattle.lists.specs.Base.{if◌then◌else◌, is_some, fold_option, swap_remove}
+use Rattle.lists.specs.Base.{is_some, fold_option, swap_remove}
 use Rattle.model.specs.declared.Rect.{Rect}
 use Rattle.model.specs.declared.StockInstance.{StockInstance}
 use Rattle.model.specs.declared.InstanceKey.{InstanceKey}

@@ -1,11 +1,12 @@
 -- Cuts found by their keys, in a catalogue whose keys are distinct.
+use Rattle.std.specs.Prelude.{if◌then◌else◌}
 use mathlib.Core.Path.{◌≡◌, refl, sym, ap, subst}
 use mathlib.Core.Logic.{◌⊎◌, inl, inr}
 use mathlib.Core.List.Memᴰ
 use mathlib.Core.List.{List, [], ◌∷◌, map, Memᴰ}
 use mathlib.Core.Option.{Option, none, some}
 use lib.Dec.{T}
-use Rattle.lists.specs.Base.{if◌then◌else◌, ◌>>=◌, ◌<|>◌, find, map_option}
+use Rattle.lists.specs.Base.{◌>>=◌, ◌<|>◌, find, map_option}
 use Rattle.model.specs.declared.CutInstance.{CutInstance}
 use Rattle.model.specs.declared.InstanceKey.{InstanceKey}
 use Rattle.model.specs.Types.{cut_key, same_key}

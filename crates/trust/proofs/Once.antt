@@ -1,5 +1,6 @@
 -- Counting by keys: a list in which every panel lies once and nothing else is the panels in some order, and boards that differ and are all
 -- on the rack leave the others.
+use Rattle.std.specs.Prelude.{if◌then◌else◌}
 use Prim.Native.Nat.{ℕ, suc}
 use native.Mathlib.Omega.{arith}
 use mathlib.Core.Path.{◌≡◌, refl, sym, ap, ◌∙◌, subst}
@@ -8,7 +9,7 @@ use mathlib.Core.Bool.{Bool, true, false, not}
 use mathlib.Core.List.{List, [], ◌∷◌, ◌++◌, map, Memᴰ}
 use lib.Dec.{T, T_not}
 use lib.ListN.{length}
-use Rattle.lists.specs.Base.{if◌then◌else◌, retain}
+use Rattle.lists.specs.Base.{retain}
 use Rattle.model.specs.declared.CutInstance.{CutInstance}
 use Rattle.model.specs.declared.InstanceKey.{InstanceKey}
 use Rattle.model.specs.Types.{cut_key, same_key}

@@ -1,4 +1,5 @@
 -- What `one_tree` tests of a sheet's nodes: they are those of one tree, a cut before its first and its second child, or none.
+use Rattle.std.specs.Prelude.{if◌then◌else◌}
 use Prim.Native.Nat.{ℕ, zero, suc}
 use native.Mathlib.Omega.{arith}
 use mathlib.Core.Path.{◌≡◌, refl, sym, ap, ◌∙◌, subst}
@@ -7,7 +8,7 @@ use mathlib.Core.Bool.{Bool, true, false, not}
 use mathlib.Core.List.{List, [], ◌∷◌, ◌++◌, append-nil, append_assoc}
 use lib.Dec.{T, eqb→eq}
 use lib.ListN.{length}
-use Rattle.lists.specs.Base.{if◌then◌else◌, is_empty, concat_map}
+use Rattle.lists.specs.Base.{is_empty, concat_map}
 use Rattle.lists.proofs.Perm.{All}
 use Rattle.lists.proofs.Booleans.{is_true, is_false}
 use Rattle.trust.specs.Words.{NodeIn}

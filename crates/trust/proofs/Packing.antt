@@ -1,4 +1,5 @@
 -- Rectangles that lie in a board and are apart have no more area than the board: cells are counted, and each is covered at most once.
+use Rattle.std.specs.Prelude.{if◌then◌else◌}
 use Prim.Native.Nat.{ℕ, zero, suc, ◌+◌, ◌-◌, ◌*◌, ◌≤◌, ◌<◌, min}
 use native.Mathlib.Nat.{le_refl, le_trans, add-le-add, mul-add, mul-zero, one-mul, zero-mul, mul_comm, suc-mul}
 use native.Mathlib.Omega.{arith}
@@ -8,7 +9,7 @@ use mathlib.Core.Bool.{Bool, true, false, ◌&&◌}
 use mathlib.Core.List.{List, [], ◌∷◌, map}
 use lib.Dec.{leb, ltb}
 use borrow.Author.Tests.{leb-true, leb-false, ltb-true, ltb-false}
-use Rattle.lists.specs.Base.{if◌then◌else◌, sum}
+use Rattle.lists.specs.Base.{sum}
 use Rattle.model.specs.declared.Rect.{Rect}
 use Rattle.model.specs.Types.{area}
 use Rattle.lists.proofs.Perm.{All, Pairs}

@@ -1,5 +1,6 @@
 -- The parts of a guide: the root's part is the whole sheet, a cut's children have the parts before its offset and after its kerf. A node's
 -- rectangle lies at its part's corner and falls short of it by at most a kerf on each axis; a free leaf fills its part.
+use Rattle.std.specs.Prelude.{if◌then◌else◌}
 use Prim.Native.Nat.{ℕ, ◌+◌, ◌-◌, ◌≤◌, ◌<◌}
 use native.Mathlib.Nat.{le_refl}
 use native.Mathlib.Omega.{arith}
@@ -8,7 +9,6 @@ use mathlib.Core.Bool.{Bool, true, false, not}
 use mathlib.Core.List.{[], ◌∷◌}
 use mathlib.Core.Option.{some, some-injective}
 use lib.Dec.{T, ltb, nltb→le}
-use Rattle.lists.specs.Base.{if◌then◌else◌}
 use Rattle.model.specs.declared.Rect.{Rect}
 use Rattle.model.specs.declared.Direction.{Direction}
 use Rattle.model.specs.declared.StockInstance.{StockInstance}

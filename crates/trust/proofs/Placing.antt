@@ -1,4 +1,5 @@
 -- The place that an insertion finds: a free rectangle at its index, with a legal fit at its corner.
+use Rattle.std.specs.Prelude.{if◌then◌else◌}
 use Prim.Native.Nat.{ℕ, suc, ◌≤◌, ◌<◌}
 use native.Mathlib.Omega.{arith}
 use mathlib.Core.Path.{◌≡◌, refl, subst}
@@ -8,7 +9,7 @@ use mathlib.Core.Option.{some, some-injective, none-ne-some}
 use lib.Dec.{T, leb, leb→le}
 use lib.ListN.{length, get_or, length-append}
 use lib.Seq.{get_or-append_seam}
-use Rattle.lists.specs.Base.{if◌then◌else◌, enumerate, enumerate_from, keep_best, first_best}
+use Rattle.lists.specs.Base.{enumerate, enumerate_from, keep_best, first_best}
 use Rattle.model.specs.declared.Rect.{Rect}
 use Rattle.model.specs.declared.CutInstance.{CutInstance}
 use Rattle.model.specs.declared.FitResult.{FitResult}

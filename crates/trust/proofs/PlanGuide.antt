@@ -1,4 +1,5 @@
 -- The guide of a winner's sheet, as it is read back, obeys the guide rules.
+use Rattle.std.specs.Prelude.{if◌then◌else◌}
 use Prim.Native.Nat.{ℕ, ◌+◌, ◌-◌, ◌*◌, ◌/◌}
 use native.Mathlib.Omega.{arith}
 use mathlib.Core.Path.{◌≡◌, refl, sym, ap, ◌∙◌, subst}
@@ -7,7 +8,7 @@ use mathlib.Core.List.{List, [], ◌∷◌, ◌++◌, map, map-map, append-nil, 
 use mathlib.Core.Option.{Option, none, some}
 use lib.Dec.{T, eqb}
 use borrow.Author.Tests.{eq-eqb, le-leb}
-use Rattle.lists.specs.Base.{if◌then◌else◌, sum, retain, is_empty}
+use Rattle.lists.specs.Base.{sum, retain, is_empty}
 use Rattle.model.specs.declared.Rect.{Rect}
 use Rattle.model.specs.declared.Direction.{Direction}
 use Rattle.model.specs.Types.{rect, area, stock_rect, stock_area, direction_code}

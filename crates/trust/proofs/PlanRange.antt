@@ -1,4 +1,5 @@
 -- Every word of a plan is a u32, for a file of bytes.
+use Rattle.std.specs.Prelude.{if◌then◌else◌}
 use Prim.Native.Nat.{ℕ, ◌+◌, ◌*◌, ◌^◌, ◌≤◌, ◌<◌}
 use native.Mathlib.Nat.{mul-le-mul_right, div-le_of_le-mul}
 use native.Mathlib.Omega.{arith}
@@ -11,7 +12,7 @@ use lib.ListN.{length, length-append}
 use lib.Ieee.{Float, binary64, add, div, fits, to_bits}
 use lib.Ieee.Bits.{to_bits-lt}
 use lib.Ieee.Fits.{div-fits}
-use Rattle.lists.specs.Base.{if◌then◌else◌, foldl, concat_map}
+use Rattle.lists.specs.Base.{foldl, concat_map}
 use Rattle.model.specs.declared.Rect.{Rect}
 use Rattle.model.specs.declared.Direction.{Direction}
 use Rattle.model.specs.declared.PatternDirection.{PatternDirection}

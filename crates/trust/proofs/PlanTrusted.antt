@@ -1,4 +1,5 @@
 -- Every plan that the definition answers is trusted, with whatever follows it in memory.
+use Rattle.std.specs.Prelude.{if◌then◌else◌}
 use Prim.Native.Nat.{ℕ, ◌+◌, ◌*◌, ◌<◌}
 use native.Mathlib.Omega.{arith}
 use mathlib.Core.Path.{◌≡◌, refl, sym, ap, ◌∙◌, subst}
@@ -8,7 +9,7 @@ use mathlib.Core.List.{List, [], ◌∷◌, ◌++◌, map, map-map, Memᴰ}
 use mathlib.Core.Option.{get_or}
 use lib.Dec.{T}
 use lib.ListN.{length, drop}
-use Rattle.lists.specs.Base.{if◌then◌else◌, all, is_empty}
+use Rattle.lists.specs.Base.{all, is_empty}
 use Rattle.model.specs.declared.BaselineGuillotineHeuristic.{BaselineGuillotineHeuristic}
 use Rattle.model.specs.declared.LayoutKind.{LayoutKind}
 use Rattle.model.specs.declared.Rect.{Rect}

@@ -1,4 +1,5 @@
 -- Which sheets a plan is written from: those of a candidate with all that the search's candidates have, or none where there are no cuts.
+use Rattle.std.specs.Prelude.{if◌then◌else◌}
 use Prim.Native.Nat.{ℕ, ◌<◌}
 use native.Mathlib.Omega.{arith}
 use mathlib.Core.Path.{◌≡◌, refl, sym, ap, ◌∙◌}
@@ -7,7 +8,7 @@ use mathlib.Core.List.{List, [], ◌∷◌, cons≢nil}
 use mathlib.Core.Option.{Option, none, some, get_or}
 use lib.Dec.{T}
 use lib.ListN.{length}
-use Rattle.lists.specs.Base.{if◌then◌else◌, is_empty}
+use Rattle.lists.specs.Base.{is_empty}
 use Rattle.model.specs.declared.LayoutKind.{LayoutKind}
 use Rattle.model.specs.declared.BaselineGuillotineHeuristic.{BaselineGuillotineHeuristic}
 use Rattle.model.specs.declared.CutInstance.{CutInstance}

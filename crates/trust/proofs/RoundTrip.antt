@@ -1,4 +1,5 @@
 -- Reading a plan's words gives back what was written: each part is its sheet's words, and the sheets read are the definition's.
+use Rattle.std.specs.Prelude.{if◌then◌else◌}
 use Prim.Native.Nat.{ℕ, suc, ◌+◌, ◌*◌, ◌/◌, ◌%◌, ◌^◌, ◌≤◌, ◌<◌}
 use native.Mathlib.Nat.{mod-add-div}
 use native.Mathlib.Omega.{arith}
@@ -10,7 +11,7 @@ use borrow.Author.Tests.{le-leb, lt-ltb, le-ltb}
 use lib.ListN.{length, length-map, get_or, take, drop, length-append, get_or-append}
 use lib.Seq.{take-append_seam, take_at, drop_at, get_or_at, get_or-append-add, append_snoc, split_at, length-take-le}
 use lib.Ieee.{Float, binary64, to_bits}
-use Rattle.lists.specs.Base.{if◌then◌else◌, count_from, range, concat_map}
+use Rattle.lists.specs.Base.{count_from, range, concat_map}
 use Rattle.model.specs.declared.LayoutKind.{LayoutKind}
 use Rattle.model.specs.declared.Rect.{Rect}
 use Rattle.model.specs.declared.InstanceKey.{InstanceKey}

@@ -1,7 +1,7 @@
 -- The guide of a sheet, over its words: document 01, "Sheet", with its use and saw, "Plan".
-use Rattle.std.specs.Prelude.{ℕ, ◌+◌, ◌-◌, ◌*◌, ◌/◌, ◌≡◌, Bool, true, false, not, ◌&&◌, ◌||◌, List, [], ◌∷◌, map, T, leb, eqb}
+use Rattle.std.specs.Prelude.{ℕ, ◌+◌, ◌-◌, ◌*◌, ◌/◌, ◌≡◌, Bool, true, false, not, ◌&&◌, ◌||◌, List, [], ◌∷◌, map, T, leb, eqb, if◌then◌else◌}
 use Rattle.std.proofs.Math.Option.{none, some}
-use Rattle.lists.specs.Base.{if◌then◌else◌, sum, retain, is_empty}
+use Rattle.lists.specs.Base.{sum, retain, is_empty}
 use Rattle.model.specs.declared.Rect.{Rect}
 use Rattle.model.specs.declared.InstanceKey.{InstanceKey}
 use Rattle.model.specs.Types.{rect, area}

@@ -1,6 +1,6 @@
 -- Document 01, "Plan": which words are in the layout. Nothing past the last body is read.
-use Rattle.std.specs.Prelude.{ℕ, zero, suc, ◌+◌, ◌*◌, Bool, true, false, ◌&&◌, ◌||◌, List, [], ◌∷◌, T, leb, ltb, eqb, length}
-use Rattle.lists.specs.Base.{if◌then◌else◌, all, is_empty, range}
+use Rattle.std.specs.Prelude.{ℕ, zero, suc, ◌+◌, ◌*◌, Bool, true, false, ◌&&◌, ◌||◌, List, [], ◌∷◌, T, leb, ltb, eqb, length, if◌then◌else◌}
+use Rattle.lists.specs.Base.{all, is_empty, range}
 use Rattle.model.specs.Plan.{entry_of, sheet_part}
 use Rattle.trust.specs.Words.{PieceIn, NodeIn, SheetIn, word, head_size, piece_size, waste_size, node_size, piece_count, waste_count, node_count, sheet_in, sheet_count, layout_word}
 

@@ -1,6 +1,6 @@
 -- Demand 3 over the words of a plan: document 01, "What the marker counts".
-use Rattle.std.specs.Prelude.{ℕ, ◌+◌, ◌*◌, ◌≡◌, List, [], ◌∷◌, ◌++◌, map, T}
-use Rattle.lists.specs.Base.{if◌then◌else◌, sum, all, is_empty}
+use Rattle.std.specs.Prelude.{ℕ, ◌+◌, ◌*◌, ◌≡◌, List, [], ◌∷◌, ◌++◌, map, T, if◌then◌else◌}
+use Rattle.lists.specs.Base.{sum, all, is_empty}
 use Rattle.model.specs.declared.BaselineGuillotineHeuristic.{BaselineGuillotineHeuristic}
 use Rattle.model.specs.declared.StockInstance.{StockInstance}
 use Rattle.model.specs.Types.{area, stock_key, cut_key}

@@ -1,4 +1,5 @@
 -- A sheet taken apart: the loop sends each insertion to the kept ones or its cut to the unused ones.
+use Rattle.std.specs.Prelude.{if◌then◌else◌}
 use Prim.Native.Nat.{ℕ, ◌+◌, ◌≤◌, ◌<◌}
 use native.Mathlib.Omega.{arith}
 use mathlib.Core.Path.{◌≡◌, refl, sym, ap, ◌∙◌, subst, subst₂}
@@ -7,7 +8,7 @@ use mathlib.Core.List.{List, [], ◌∷◌, ◌++◌, map, append-nil, append_as
 use lib.Dec.{eqb}
 use lib.ListN.{length, get_or, set, take, length-append, length-set}
 use borrow.Author.Tests.{eq-eqb, ne_eqb}
-use Rattle.lists.specs.Base.{if◌then◌else◌, retain}
+use Rattle.lists.specs.Base.{retain}
 use Rattle.lists.proofs.Sums.{map_append}
 use Rattle.lists.proofs.Kept.{retain_append}
 use Rattle.lists.proofs.Arrays.{take_next, take_push}

@@ -1,4 +1,5 @@
 -- A number and its index, a row found by its key, and the numbers that are not among some.
+use Rattle.std.specs.Prelude.{if◌then◌else◌}
 use Prim.Native.Nat.{ℕ, suc, suc-le-suc, ◌+◌, ◌<◌}
 use native.Mathlib.Nat.{zero-lt-suc}
 use native.Mathlib.Omega.{arith}
@@ -11,7 +12,7 @@ use mathlib.Core.Option.{Option, none, some}
 use lib.Dec.{T, eqb}
 use lib.ListN.{length, get_or}
 use borrow.Author.Tests.{eq-eqb, eqb-true, eqb-false}
-use Rattle.lists.specs.Base.{if◌then◌else◌, ◌<|>◌, any, retain, find, enumerate_from, enumerate, range}
+use Rattle.lists.specs.Base.{◌<|>◌, any, retain, find, enumerate_from, enumerate, range}
 use Rattle.lists.proofs.Perm.{Perm, perm_sym, perm_append_left, perm_append_comm, also, All, Pairs, all_map, all_self, pairs_perm}
 use Rattle.lists.proofs.Kept.{retain_append, retain_none, retain_perm, retain_all}
 use Rattle.lists.proofs.Every.{pairs_across}

@@ -1,4 +1,5 @@
 -- Insertions and unused cuts pushed one after the other, as the loops push them.
+use Rattle.std.specs.Prelude.{if◌then◌else◌}
 use Prim.Native.Nat.{ℕ, suc, ◌+◌, ◌≤◌, ◌<◌}
 use native.Mathlib.Numerals.{add-one}
 use native.Mathlib.Omega.{arith}
@@ -7,7 +8,7 @@ use mathlib.Core.Bool.{Bool, true, false, not}
 use mathlib.Core.List.{List, [], ◌∷◌, ◌++◌, map, append-nil, append_assoc}
 use lib.ListN.{length, get_or, take, drop, length-set, drop_of_length-le}
 use borrow.Author.Tests.{eq-eqb, ne_eqb}
-use Rattle.lists.specs.Base.{if◌then◌else◌, foldl, retain, count_from, range}
+use Rattle.lists.specs.Base.{foldl, retain, count_from, range}
 use Rattle.lists.proofs.Sums.{map_append}
 use Rattle.lists.proofs.Kept.{retain_append}
 use Rattle.lists.proofs.Counts.{count_snoc}

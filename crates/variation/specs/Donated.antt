@@ -1,6 +1,6 @@
 -- The words of a crossover child: the donor's sheet with its cuts placed anew, the other cuts unused.
-use Rattle.std.specs.Prelude.{ℕ, zero, suc, not, List, [], ◌∷◌, map, eqb}
-use Rattle.lists.specs.Base.{if◌then◌else◌, foldl, retain, range}
+use Rattle.std.specs.Prelude.{ℕ, zero, suc, not, List, [], ◌∷◌, map, eqb, if◌then◌else◌}
+use Rattle.lists.specs.Base.{foldl, retain, range}
 use Rattle.model.specs.declared.BaselineGuillotineHeuristic.{BaselineGuillotineHeuristic}
 use Rattle.candidate.specs.declared.Candidate.{Candidate as Words}
 use Rattle.candidate.specs.Entries.{cut_of, insertion_word, on_board}

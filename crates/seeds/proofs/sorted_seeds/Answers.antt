@@ -1,6 +1,6 @@
 -- `seeds::sorted_seeds` meets its contract.
+use Rattle.std.specs.Prelude.{if◌then◌else◌}
 use Rattle.std.proofs.Common.{◌≡◌, ◌+◌, ◌-◌, Bool, true, false, sym, ap, ◌∙◌, arith}
-use Rattle.lists.specs.Base.{if◌then◌else◌}
 use Rattle.seeds.specs.declared.SearchNumbers.{SearchNumbers}
 use Rattle.seeds.specs.declared.HeuristicRows.{HeuristicRows}
 use Rattle.seeds.specs.Rows.{sorted_seeds}
