@@ -64,7 +64,7 @@ use Rattle.std.specs.Prelude.{{ℕ, List, [], ◌∷◌, map}}
 use Rattle.model.specs.Project.{{project_of}}
 use Rattle.model.specs.Sheet.{{new_sheet}}
 use Rattle.model.specs.Account.{{account_from}}
-use Rattle.model.specs.Answer.{{Answer, plan, refused, answer, made_by}}
+use Rattle.model.specs.Answer.{{Answer, plan, refused, made_by}}
 use Rattle.model.specs.FileOf.{{file}}
 
 unfoldable pub cases : List (List ℕ × Answer)
@@ -87,7 +87,7 @@ star4 = {star4}
 '''
 STARS_PROOF = '''-- The ★ cases of document 01, proved together: the definition answers every file of the table as the table does.
 -- (Written by tools/write_tables.py; the answers are the Rust's.)
-use Rattle.std.specs.Prelude.{ℕ, ◌≡◌, refl, List, [], ◌∷◌, map}
+use Rattle.std.specs.Prelude.{◌≡◌, refl, [], ◌∷◌, map}
 use Rattle.model.specs.Answer.{answer}
 use Rattle.model.specs.Evaluate.{evaluate}
 use Rattle.model.specs.FileOf.{file}
@@ -110,7 +110,7 @@ decided =
 {cases}'''
 PLANS_PROOF = '''-- Plans of all three efforts, each with something that decides it, proved by computation.
 -- (Written by tools/write_tables.py; the answers are the Rust's.)
-use Rattle.std.specs.Prelude.{ℕ, ◌≡◌, refl, List, [], ◌∷◌, map}
+use Rattle.std.specs.Prelude.{◌≡◌, refl, map}
 use Rattle.model.specs.Answer.{answer}
 use Rattle.model.specs.Evaluate.{evaluate}
 use Rattle.model.specs.FileOf.{file}
