@@ -1,5 +1,5 @@
 -- Each branch is the one that the definition's test takes.
-use Rattle.std.proofs.Common.{ap₂, eq-eqb, ne_eqb}
+use Rattle.std.proofs.Common.{ap₂, eq-eqb, ne_eqb, rules}
 use lib.Ieee.{binary64, div, of_bits}
 use Rattle.fitness.specs.Areas.{share_of}
 use Rattle.fitness.proofs.sheet_fitness.Goals as goal
@@ -10,4 +10,4 @@ returns-then-area-eq0 c = simp (eq-eqb _ _ c.if-area-eq0.true)
 
 pub returns : goal.returns
 unfolding share_of
-returns c = simp (ne_eqb _ _ c.if-area-eq0.false) (ap₂ (div binary64) c.area_as_fitness_weight.ensures c.area_as_fitness_weight-2.ensures)
+returns c = simp (ne_eqb c.args.area 0 (search rules)) (ap₂ (div binary64) c.area_as_fitness_weight.ensures c.area_as_fitness_weight-2.ensures)

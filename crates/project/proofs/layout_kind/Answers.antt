@@ -3,6 +3,7 @@ use mathlib.Core.Path.{sym, ap, ◌∙◌}
 use Rattle.model.specs.Project.{project_of}
 use Rattle.model.specs.Types.{layout_of}
 use Rattle.project.proofs.Shape.{nested_layout}
+use Rattle.std.proofs.Common.{rules}
 use Rattle.project.proofs.layout_kind.Goals as goal
 
 pub returns-then-number_1-eq0 : goal.returns-then-number_1-eq0
@@ -11,4 +12,4 @@ returns-then-number_1-eq0 c = ap layout_of (sym c.if-number_1-eq0.true ∙ c.num
 
 pub returns : goal.returns
 unfolding project_of
-returns c = nested_layout _ c.if-number_1-eq0.false ∙ ap layout_of c.number_1.ensures
+returns c = nested_layout _ (search rules) ∙ ap layout_of c.number_1.ensures
