@@ -1,4 +1,4 @@
-//! The text of a plan's words (document 01, "Plan"), written apart from the proved one, to compare words with the published Rust's text.
+//! The text of a plan's words, written apart from the proved one, to compare words with the published Rust's text.
 use std::fmt::Write;
 
 fn id(w: &[u32]) -> u64 {

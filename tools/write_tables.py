@@ -7,7 +7,7 @@ from case import project, text, words, antt_file, antt_answer
 
 def board(w, l, q=1, p=0): return [(1, w, l, q, p, 1)]
 
-# document 01, "Boards tried at the edge"
+# boards tried at the edge
 STARS = [
     ("★1, stock 128×64, cut 64×64", 3, 0, board(128, 64), [(7, 64, 64, 1, 0, 0)]),
     ("★2, cut 125×64: no waste", 3, 0, board(128, 64), [(7, 125, 64, 1, 0, 0)]),
@@ -58,7 +58,7 @@ def limits():
         out += "    %s(%s, %d)\n" % ("∷ " if i else "", antt_file(k, e, s, c), w if isinstance(w, int) else 0)
     return out + "    ∷ []\n"
 
-STARS_FILE = '''-- The ★ cases of document 01: files, and the answers that the Rust gives them. proofs/Stars shows that the definition gives the same.
+STARS_FILE = '''-- The ★ cases: files, and the answers that the Rust gives them. proofs/Stars shows that the definition gives the same.
 -- (Written by tools/write_tables.py.)
 use Rattle.std.specs.Prelude.{{ℕ, List, [], ◌∷◌, map}}
 use Rattle.model.specs.Project.{{project_of}}
@@ -85,7 +85,7 @@ accounts bytes = map (λ m. account_from (project_of bytes).kerf (new_sheet m.0)
 unfoldable pub star4 : List ℕ
 star4 = {star4}
 '''
-STARS_PROOF = '''-- The ★ cases of document 01, proved together: the definition answers every file of the table as the table does.
+STARS_PROOF = '''-- The ★ cases, proved together: the definition answers every file of the table as the table does.
 -- (Written by tools/write_tables.py; the answers are the Rust's.)
 use Rattle.std.specs.Prelude.{◌≡◌, refl, [], ◌∷◌, map}
 use Rattle.model.specs.Answer.{answer}

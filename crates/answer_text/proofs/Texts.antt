@@ -1,12 +1,13 @@
 -- A file's text, from what the entry answers and leaves.
 use Prim.Native.Nat.{ℕ}
+use native.Mathlib.Omega.{arith}
 use mathlib.Core.Path.{◌≡◌, sym, ap, ◌∙◌}
 use mathlib.Core.List.{List}
 use lib.ListN.{replicate}
 use Rattle.model.specs.Outcome.{least_workspace, least_plan}
+use Rattle.project.specs.declared.Refusal.{Refusal}
+use Rattle.project.specs.Refusals.{refusal_number}
 use Rattle.optimizer.specs.Promise.{number_of_answer, Promise}
-use Rattle.append.specs.Appending.{Appended, Front}
-use Rattle.append.proofs.Laws.{appended_front, appended_is}
 use Rattle.plan_text.specs.Text.{plan_text}
 use Rattle.answer_text.specs.Text.{refusal_text, answer_text, planned, file_text}
 use borrow.Author.Tests.{ne_eqb}
@@ -24,12 +25,27 @@ module _ {file w p : List ℕ} {n : ℕ} (h : Promise file (replicate least_work
   unfolding answer_text
   is_refusal e = rw (ne_eqb n 0 e)
 
-  -- a text put in is the file's
-  put_in : {s out out' : List ℕ} {r : ℕ} → s ≡ answer_text n p → Appended out 0 s out' r → Appended out 0 (file_text file) out' r × Front r out'
-  put_in e a = (appended_is a (e ∙ told), appended_front a)
+  pub text_of_plan : n ≡ 0 → plan_text p ≡ file_text file
+  text_of_plan e = is_plan e ∙ told
 
-  pub text_of_plan : {out out' : List ℕ} {r : ℕ} → n ≡ 0 → Appended out 0 (plan_text p) out' r → Appended out 0 (file_text file) out' r × Front r out'
-  text_of_plan e a = put_in (is_plan e) a
+  pub text_of_refusal : (n ≡ 0 → ⊥) → refusal_text n ≡ file_text file
+  text_of_refusal e = is_refusal e ∙ told
 
-  pub text_of_refusal : {out out' : List ℕ} {r : ℕ} → (n ≡ 0 → ⊥) → Appended out 0 (refusal_text n) out' r → Appended out 0 (file_text file) out' r × Front r out'
-  text_of_refusal e a = put_in (is_refusal e) a
+pub refusal_number-positive : (r : Refusal) → refusal_number r ≡ 0 → ⊥
+refusal_number-positive Refusal.TooSmallMemory e = omega arith
+refusal_number-positive Refusal.NotWellFormed e = omega arith
+refusal_number-positive Refusal.BadSettings e = omega arith
+refusal_number-positive Refusal.LargeKerf e = omega arith
+refusal_number-positive Refusal.BadCodes e = omega arith
+refusal_number-positive Refusal.ZeroSide e = omega arith
+refusal_number-positive Refusal.LargeSide e = omega arith
+refusal_number-positive Refusal.UnlimitedStock e = omega arith
+refusal_number-positive Refusal.RepeatedId e = omega arith
+refusal_number-positive Refusal.TooManyStockInstances e = omega arith
+refusal_number-positive Refusal.ZeroQuantity e = omega arith
+refusal_number-positive Refusal.TooManyCutInstances e = omega arith
+refusal_number-positive Refusal.NoStock e = omega arith
+refusal_number-positive Refusal.NestedLayout e = omega arith
+refusal_number-positive Refusal.CutFitsNoStock e = omega arith
+refusal_number-positive Refusal.CutAreaTooLarge e = omega arith
+refusal_number-positive Refusal.NoCandidate e = omega arith

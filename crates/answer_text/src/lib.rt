@@ -1,27 +1,30 @@
-// The text of the planner's answer to a project file, as `cutplan` prints it (document 01, "Plan").
+// The text of the planner's answer to a project file, as `cutplan` prints it: its plan, or the number of its refusal.
 #![tactic(auto)]
 
-ghost use Rattle.append.specs.Appending.{Appended, Front};
+ghost use Rattle.std.specs.Prelude.{◌≡◌};
+ghost use Rattle.project.specs.Refusals.{refusal_number};
+ghost use Rattle.append.specs.Appending.{with_bytes};
 ghost use Rattle.answer_text.specs.Text.{refusal_text, file_text};
 
-fn put_refusal(number: u32, out: &mut [u8]) -> usize
-    ensures { Appended out.old 0 (refusal_text number) out.new result }
+use append::Buffer;
+use project::Refusal;
+
+fn put_refusal<const N: usize>(refusal: Refusal, text: &mut Buffer<N>)
+    ensures { text.new ≡ with_bytes N text.old (refusal_text (refusal_number refusal)) }
 {
-    let named = append::put_bytes(b"refused ", out, 0);
-    let told = append::put_decimal(number as u64, out, named);
-    append::put_byte(b'\n', out, told)
+    text.push_bytes(b"refused ");
+    text.push_decimal(u64::from(refusal.number()));
+    text.push(b'\n');
 }
 
-// The text at the start of a buffer, as far as it fits; how many bytes of the buffer it takes.
-pub fn put_answer(file: &[u8], out: &mut [u8]) -> usize
-    ensures appended { Appended out.old 0 (file_text file.now) out.new result }
-    ensures front { Front result out.new }
+// The text of the answer to a file, as far as there is room.
+pub fn put_answer<const N: usize>(file: &[u8], text: &mut Buffer<N>)
+    ensures { text.new ≡ with_bytes N text.old (file_text file.now) }
 {
     let mut workspace = [0u32; 16_384];
     let mut plan = [0u32; 4_500];
-    let number = optimizer::optimizer_optimize(file, &mut workspace, &mut plan);
-    if number == 0 {
-        return plan_text::put_plan(&plan, out);
+    match optimizer::optimize(file, &mut workspace, &mut plan) {
+        Ok(()) => plan_text::put_plan(&plan, text),
+        Err(refusal) => put_refusal(refusal, text),
     }
-    put_refusal(number, out)
 }

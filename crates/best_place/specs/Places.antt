@@ -1,6 +1,6 @@
--- The search for the best place: what is left to look at, and what is best so far.
-use Rattle.std.specs.Prelude.{ℕ, suc, ◌≡◌, Bool, List, [], ◌∷◌, ◌++◌, map, if◌then◌else◌}
-use Rattle.std.proofs.Math.Option.{Option, none, some}
+-- The search for the best place: the places that are looked at, and what is best so far.
+use Rattle.std.specs.Prelude.{ℕ, suc, ◌≡◌, ◌≤◌, ◌<◌, Bool, false, true, Option, Some, None, IfSome, unwrap_or, get_or, List, [], ◌∷◌, ◌++◌, map}
+use Rattle.std.proofs.Math.Option as Defined
 use Rattle.lists.specs.Base.{keep_best, first_best}
 use Rattle.model.specs.declared.PatternDirection.{PatternDirection}
 use Rattle.model.specs.declared.RotationPreference.{RotationPreference}
@@ -13,14 +13,13 @@ use Rattle.model.specs.Sheet.{GuillotineSheet, Place, score_less, best_place}
 use Rattle.patterns.specs.declared.Ways.{Ways}
 use Rattle.fits.specs.ByWays.{lies_any_way, fits_by_ways}
 use Rattle.choice.specs.Numbers.{numbers_of}
-use Rattle.best_place.specs.declared.BestFit.{BestFit}
-use Rattle.best_place.specs.declared.BestFit.TheVariants.{Nothing, At}
-use Rattle.rect_words.specs.SheetWords.{Shows}
+use Rattle.best_place.specs.declared.ScoredPlace.{ScoredPlace}
+use Rattle.rect_words.specs.SheetWords.{rect_at, Shows}
 
--- the number of the first rectangle of the list in which a cut of these sides lies; i is the number of the list's first
-unfoldable pub next_fit : Ways → (width length i : ℕ) → List Rect → ℕ
-next_fit ways width length i [] = i
-next_fit ways width length i (r ∷ rs) = if lies_any_way ways width length r.width r.length then i else next_fit ways width length (suc i) rs
+-- of the rectangles from an index on, the first in which a cut of these sides lies
+pub record IsNextFit (words : List ℕ) (ways : Ways) (width length from : ℕ) (r : Option ℕ) : Type 0 where
+  pub fits : IfSome r (λ k. (from ≤ k) × (k < get_or words 0 0) × (lies_any_way ways width length (rect_at words k).width (rect_at words k).length ≡ true))
+  pub none_before : (k : ℕ) → from ≤ k → k < unwrap_or r (get_or words 0 0) → lies_any_way ways width length (rect_at words k).width (rect_at words k).length ≡ false
 
 abbrev pub place_at : ℕ → Rect → FitResult → Place
 place_at k r f = record { index = k; free_rect = r; fit = f }
@@ -31,26 +30,26 @@ places_by_ways ways cut rotation i [] = []
 places_by_ways ways cut rotation i (r ∷ rs) = map (place_at i r) (fits_by_ways ways cut r rotation) ++ places_by_ways ways cut rotation (suc i) rs
 
 -- `first_best` of the definition, with what is best so far
-unfoldable pub best_over : {A : Type 0} → (A → A → Bool) → Option A → List A → Option A
-best_over better none xs = first_best better xs
-best_over better (some x) xs = some (keep_best better x xs)
+unfoldable pub best_over : {A : Type 0} → (A → A → Bool) → Defined.Option A → List A → Defined.Option A
+best_over better Defined.none xs = first_best better xs
+best_over better (Defined.some x) xs = Defined.some (keep_best better x xs)
 
 -- ---- the answer
 
-abbrev pub place_of : BestFit → Option Place
-place_of Nothing = none
-place_of (At i r f s) = some (place_at i r f)
+abbrev pub place_of : Option ScoredPlace → Defined.Option Place
+place_of None = Defined.none
+place_of (Some p) = Defined.some (place_at p.index p.free_rect p.fit)
 
-abbrev pub Scored : BaselineGuillotineHeuristic → BestFit → Type 0
-Scored h Nothing = Unit
-Scored h (At i r f s) = numbers_of s ≡ free_rect_choice_score r f.rect h.rect_choice
+abbrev pub Scored : BaselineGuillotineHeuristic → Option ScoredPlace → Type 0
+Scored h None = Unit
+Scored h (Some p) = numbers_of p.score ≡ free_rect_choice_score p.free_rect p.fit.rect h.rect_choice
 
 -- the best of what was best before and of further places
-pub record Over (h : BaselineGuillotineHeuristic) (before : BestFit) (further : List Place) (r : BestFit) : Type 0 where
+pub record Over (h : BaselineGuillotineHeuristic) (before : Option ScoredPlace) (further : List Place) (r : Option ScoredPlace) : Type 0 where
   pub place : place_of r ≡ best_over (score_less h) (place_of before) further
   pub scored : Scored h r
 
 -- the best place of the cut on any sheet that the words show
-pub record FindsBest (words : List ℕ) (cut : CutInstance) (pattern : PatternDirection) (h : BaselineGuillotineHeuristic) (r : BestFit) : Type 0 where
+pub record FindsBest (words : List ℕ) (cut : CutInstance) (pattern : PatternDirection) (h : BaselineGuillotineHeuristic) (r : Option ScoredPlace) : Type 0 where
   pub place : (s : GuillotineSheet) → Shows words pattern s → place_of r ≡ best_place s (record { cut = cut; heuristic = h })
   pub scored : Scored h r

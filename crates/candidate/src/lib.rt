@@ -3,7 +3,7 @@
 #![tactic(auto)]
 
 ghost use Rattle.std.specs.Prelude.{◌≡◌, ◌+◌, ◌≤◌, ◌<◌, get_or};
-ghost use Rattle.candidate.specs.Entries.{choice_code, split_code, rotation_code, heuristic_code, choice_of, split_of, rotation_of, heuristic_of, insertion_word, board_of, cut_of, row_of};
+ghost use Rattle.candidate.specs.Entries.{heuristic_code, choice_of, split_of, rotation_of, heuristic_of, insertion_word, board_of, cut_of, row_of};
 ghost use Rattle.candidate.specs.Moves.{new_words, moved_up, with_insertion, with_unused, take_place};
 
 use model::{
@@ -32,75 +32,41 @@ pub struct Candidate {
 
 // ---- insertions as words
 
-fn choice_code(choice: GuillotineRectChoice) -> u32
-    ensures { result ≡ choice_code choice }
-{
-    match choice {
-        GuillotineRectChoice::Area => 0,
-        GuillotineRectChoice::ShortSide => 1,
-        GuillotineRectChoice::LongSide => 2,
-    }
-}
-
-fn split_code(split: GuillotineSplitHeuristic) -> u32
-    ensures { result ≡ split_code split }
-{
-    match split {
-        GuillotineSplitHeuristic::Horizontal => 0,
-        GuillotineSplitHeuristic::LongerAxis => 1,
-        GuillotineSplitHeuristic::MaximizeArea => 2,
-    }
-}
-
-fn rotation_code(rotation: RotationPreference) -> u32
-    ensures { result ≡ rotation_code rotation }
-{
-    match rotation {
-        RotationPreference::PreferUpright => 0,
-        RotationPreference::PreferRotated => 1,
-    }
-}
+// The workspace is lent words, so an insertion at rest is a word. These are functions and no `From`: the types are another crate's.
 
 fn heuristic_code(h: BaselineGuillotineHeuristic) -> u32
     ensures { result ≡ heuristic_code h }
 {
-    let choice = h.rect_choice;
-    let split = h.split;
-    let rotation = h.rotation;
-    choice_code(choice) * 6 + split_code(split) * 2 + rotation_code(rotation)
+    h.rect_choice as u32 * 6 + h.split as u32 * 2 + h.rotation as u32
 }
 
 fn choice_of(code: u32) -> GuillotineRectChoice
     ensures { result ≡ choice_of code }
 {
-    if code == 0 {
-        return GuillotineRectChoice::Area;
+    match code {
+        0 => GuillotineRectChoice::Area,
+        1 => GuillotineRectChoice::ShortSide,
+        _ => GuillotineRectChoice::LongSide,
     }
-    if code == 1 {
-        return GuillotineRectChoice::ShortSide;
-    }
-    GuillotineRectChoice::LongSide
 }
 
 fn split_of(code: u32) -> GuillotineSplitHeuristic
     ensures { result ≡ split_of code }
 {
-    if code == 0 {
-        return GuillotineSplitHeuristic::Horizontal;
+    match code {
+        0 => GuillotineSplitHeuristic::Horizontal,
+        1 => GuillotineSplitHeuristic::LongerAxis,
+        _ => GuillotineSplitHeuristic::MaximizeArea,
     }
-    if code == 1 {
-        return GuillotineSplitHeuristic::LongerAxis;
-    }
-    GuillotineSplitHeuristic::MaximizeArea
 }
 
 fn rotation_of(code: u32) -> RotationPreference
     ensures { result ≡ rotation_of code }
 {
-    if code == 0 {
-        return RotationPreference::PreferUpright;
+    match code {
+        0 => RotationPreference::PreferUpright,
+        _ => RotationPreference::PreferRotated,
     }
-    RotationPreference::PreferRotated
 }
 
 fn heuristic_of(code: u32) -> BaselineGuillotineHeuristic
@@ -144,14 +110,8 @@ pub fn row_of(word: u32) -> BaselineGuillotineHeuristic
 pub fn new_candidate() -> Candidate
     ensures { result ≡ new_words }
 {
-    let mut boards = [0u32; 64];
-    let mut i: usize = 0;
-    while i < 64 {
-        boards[i] = i as u32;
-        i += 1;
-    }
     Candidate {
-        boards: boards,
+        boards: std::array::from_fn(|i| i as u32),
         sheets: 0,
         insertions: [0u32; 64],
         placed: 0,
@@ -180,9 +140,8 @@ pub fn push_insertion(
     ensures { result ≡ with_insertion c (insertion_word board cut h) }
 {
     let mut after = c;
-    let placed = after.placed;
-    after.insertions[placed] = insertion_word(board, cut, h);
-    after.placed = placed + 1;
+    after.insertions[c.placed] = insertion_word(board, cut, h);
+    after.placed += 1;
     after
 }
 
@@ -191,9 +150,8 @@ pub fn push_unused(c: Candidate, cut: u32) -> Candidate
     ensures { result ≡ with_unused c cut }
 {
     let mut after = c;
-    let count = after.unused_count;
-    after.unused[count] = cut;
-    after.unused_count = count + 1;
+    after.unused[c.unused_count] = cut;
+    after.unused_count += 1;
     after
 }
 
@@ -219,8 +177,7 @@ pub fn take_place(
     if j < sheets {
         return after;
     }
-    let boards = move_board(c.boards, j, sheets);
-    after.boards = boards;
+    after.boards = move_board(c.boards, j, sheets);
     after.sheets = sheets + 1;
     after
 }

@@ -2,67 +2,18 @@
 // `split_direction` of the optimizer, with what they call.
 #![tactic(auto)]
 
-ghost use Rattle.std.specs.Prelude.{◌≡◌, ◌-◌, min, max};
+ghost use Rattle.std.specs.Prelude.{◌≡◌};
 ghost use Rattle.model.specs.Choice.{free_rect_choice_score};
 ghost use Rattle.model.specs.Split.{split_direction};
 ghost use Rattle.model.specs.declared.GuillotineSplitHeuristic.{GuillotineSplitHeuristic};
-ghost use Rattle.choice.specs.Numbers.{numbers_of, waste_of};
+ghost use Rattle.choice.specs.Numbers.{numbers_of};
 
 use model::{Direction, GuillotineRectChoice, GuillotineSplitHeuristic, Rect};
 
 // ---- the choice of a rectangle
 
-fn saturating_sub(a: u32, b: u32) -> u32
-    ensures { result ≡ a - b }
-{
-    if a < b { 0 } else { a - b }
-}
-
-fn saturating_sub_u64(a: u64, b: u64) -> u64
-    ensures { result ≡ a - b }
-{
-    if a < b { 0 } else { a - b }
-}
-
-fn lesser(a: u32, b: u32) -> u32
-    ensures { result ≡ min a b }
-{
-    if b < a { b } else { a }
-}
-
-fn greater(a: u32, b: u32) -> u32
-    ensures { result ≡ max a b }
-{
-    if b < a { a } else { b }
-}
-
-// What a placed piece leaves of its free rectangle: the area, and the shorter and the longer of the two sides.
-#[derive(Clone, Copy)]
-pub struct Waste {
-    pub area: u64,
-    pub short: u64,
-    pub long: u64,
-}
-
-fn waste_left(free_rect: Rect, placed: Rect) -> Waste
-    ensures { result ≡ waste_of free_rect placed }
-{
-    let whole = numbers::area(free_rect.width, free_rect.length);
-    let part = numbers::area(placed.width, placed.length);
-    let left = saturating_sub_u64(whole, part);
-    let remaining_width = saturating_sub(free_rect.width, placed.width);
-    let remaining_length = saturating_sub(free_rect.length, placed.length);
-    let short = lesser(remaining_width, remaining_length) as u64;
-    let long = greater(remaining_width, remaining_length) as u64;
-    Waste {
-        area: left,
-        short: short,
-        long: long,
-    }
-}
-
 // A score, compared field by field in this order; the lowest is best.
-#[derive(Clone, Copy)]
+#[derive(Clone, Copy, PartialEq, Eq, PartialOrd, Ord)]
 pub struct Score {
     pub first: u64,
     pub second: u64,
@@ -71,45 +22,40 @@ pub struct Score {
     pub x: u32,
 }
 
+#[tactic(auto, unfolding(model::specs::Choice::free_rect_choice_score, model::specs::Choice::area_waste, model::specs::Choice::short_side, model::specs::Choice::long_side))]
 pub fn free_rect_choice_score(free_rect: Rect, placed: Rect, choice: GuillotineRectChoice) -> Score
     ensures { numbers_of result ≡ free_rect_choice_score free_rect placed choice }
 {
-    let w = waste_left(free_rect, placed);
-    match choice {
-        GuillotineRectChoice::Area => Score {
-            first: w.area,
-            second: w.short,
-            third: w.long,
-            y: free_rect.y,
-            x: free_rect.x,
-        },
-        GuillotineRectChoice::ShortSide => Score {
-            first: w.short,
-            second: w.long,
-            third: w.area,
-            y: free_rect.y,
-            x: free_rect.x,
-        },
-        GuillotineRectChoice::LongSide => Score {
-            first: w.long,
-            second: w.short,
-            third: w.area,
-            y: free_rect.y,
-            x: free_rect.x,
-        },
+    let whole = numbers::area(free_rect.width, free_rect.length);
+    let part = numbers::area(placed.width, placed.length);
+    let area = whole.saturating_sub(part);
+    let width = free_rect.width.saturating_sub(placed.width);
+    let length = free_rect.length.saturating_sub(placed.length);
+    let short = u64::from(width.min(length));
+    let long = u64::from(width.max(length));
+    let (first, second, third) = match choice {
+        GuillotineRectChoice::Area => (area, short, long),
+        GuillotineRectChoice::ShortSide => (short, long, area),
+        GuillotineRectChoice::LongSide => (long, short, area),
+    };
+    Score {
+        first,
+        second,
+        third,
+        y: free_rect.y,
+        x: free_rect.x,
     }
 }
 
 // ---- the direction of a split
 
 // The direction that leaves the larger of the two remainders larger; a tie is horizontal.
+#[tactic(auto, unfolding(model::specs::Split::split_direction))]
 fn maximize_area(free_rect: Rect, placed: Rect) -> Direction
     ensures { result ≡ split_direction free_rect placed GuillotineSplitHeuristic.MaximizeArea }
 {
-    let remaining_width = saturating_sub(free_rect.width, placed.width);
-    let remaining_length = saturating_sub(free_rect.length, placed.length);
-    let below = numbers::area(placed.width, remaining_length);
-    let beside = numbers::area(remaining_width, placed.length);
+    let below = numbers::area(placed.width, free_rect.length.saturating_sub(placed.length));
+    let beside = numbers::area(free_rect.width.saturating_sub(placed.width), placed.length);
     if below <= beside {
         Direction::Horizontal
     } else {
@@ -117,6 +63,7 @@ fn maximize_area(free_rect: Rect, placed: Rect) -> Direction
     }
 }
 
+#[tactic(auto, unfolding(model::specs::Split::split_direction))]
 pub fn split_direction(free_rect: Rect, placed: Rect, split: GuillotineSplitHeuristic) -> Direction
     ensures { result ≡ split_direction free_rect placed split }
 {

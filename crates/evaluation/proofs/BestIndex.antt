@@ -7,21 +7,21 @@ use mathlib.Core.Path.{◌≡◌, refl, sym, ap, ap₂, ◌∙◌}
 use mathlib.Core.Bool.{Bool, true, false}
 use mathlib.Core.List.{List, map}
 use mathlib.Core.Option.{Option, some}
-use lib.ListN.{length, get_or, take}
-use lib.Seq.{get_or-take}
+use lib.ListN.{length, get_or}
 use lib.Ieee.{Float}
 use Rattle.lists.specs.Base.{is_greater, count_from, range, enumerate, keep_best, first_best}
 use Rattle.lists.proofs.Every.{all_any}
+use Rattle.lists.proofs.Sums.{length-map}
 use Rattle.lists.proofs.Counts.{range_below, enumerate_range, values}
 use Rattle.lists.proofs.Maps.{first_best_map, get_d_map}
-use Rattle.model.specs.Sheet.{GuillotineSheet, placed_area}
+use Rattle.model.specs.Sheet.{GuillotineSheet}
 use Rattle.model.specs.Fitness.{sheet_fitness, compare_float}
 use Rattle.model.specs.Candidate.{Candidate, worst_bin}
 use Rattle.model.specs.Search.{best_donor_bin}
-use Rattle.fitness.specs.Areas.{share_of}
-use Rattle.fitness.proofs.Sheets.{board_area, sheet_fitness_areas}
-use Rattle.evaluation.specs.declared.Areas.{Areas}
-use Rattle.evaluation.specs.OnSheets.{AreasOf, share_at, no_bin, better, IsFirstBest, IsWorst, best_donor, IsBestDonor}
+use Rattle.fitness.specs.declared.SheetAreas.{SheetAreas}
+use Rattle.fitness.specs.Areas.{areas_of, no_sheet, share_of}
+use Rattle.fitness.proofs.Sheets.{sheet_fitness_areas}
+use Rattle.evaluation.specs.OnSheets.{share_at, less_fit, fitter, no_bin, IsFirstBest, IsWorst, best_donor, IsBestDonor}
 
 -- ---- the loop over the sheets
 
@@ -73,32 +73,33 @@ module _ (better : Float → Float → Bool) (share : ℕ → Float) (n : ℕ) w
 abbrev pub by_sheet : (Float → Float → Bool) → ℕ × GuillotineSheet → ℕ × GuillotineSheet → Bool
 by_sheet better a b = better (sheet_fitness a.1) (sheet_fitness b.1)
 
-module _ (areas : Areas) (bins : List GuillotineSheet) (of : AreasOf areas bins) where
+module _ (sheets : List SheetAreas) (bins : List GuillotineSheet) (of : sheets ≡ map areas_of bins) where
   abbrev at : ℕ → ℕ × GuillotineSheet
   at k = (k, get_or bins k no_bin)
 
-  -- element k of the first ones that are a map of the sheets
-  element : (f : GuillotineSheet → ℕ) (l : List ℕ) (k : ℕ) → k < length bins → take (length bins) l ≡ map f bins → f (get_or bins k no_bin) ≡ get_or l k 0
-  element f l k h e = sym (get_d_map f bins k 0 no_bin h) ∙ ap (λ (r : List ℕ). get_or r k 0) (sym e) ∙ get_or-take (length bins) l k 0 h
+  size : length sheets ≡ length bins
+  size = ap length of ∙ length-map areas_of bins
 
-  pub share_fitness : (k : ℕ) → k < length bins → sheet_fitness (get_or bins k no_bin) ≡ share_at areas k
+  share_fitness : (k : ℕ) → k < length bins → sheet_fitness (get_or bins k no_bin) ≡ share_at sheets k
   share_fitness k h =
-      sheet_fitness_areas (get_or bins k no_bin) ∙ ap₂ share_of (element placed_area areas.placed k h of.placed) (element board_area areas.stock k h of.stock)
+      sheet_fitness_areas (get_or bins k no_bin) ∙ ap share_of (sym (get_d_map areas_of bins k no_sheet no_bin h) ∙ ap (λ (l : List SheetAreas). get_or l k no_sheet) (sym of))
 
-  pub best_sheet : (better : Float → Float → Bool) (k : ℕ) → first_best (λ i j. better (share_at areas i) (share_at areas j)) (range (length bins)) ≡ some k
-      → first_best (by_sheet better) (enumerate bins) ≡ some (k, get_or bins k no_bin)
-  best_sheet better k e =
-      ap (first_best (by_sheet better)) (enumerate_range no_bin bins)
-      ∙ first_best_map at (λ i j. better (share_at areas i) (share_at areas j)) (by_sheet better) (λ i. i < length bins)
-      (λ i j h l. ap₂ better (share_fitness i h) (share_fitness j l)) (range (length bins)) k (range_below (length bins)) e
+  best_sheet : (better : Float → Float → Bool) (k : ℕ) → IsFirstBest better sheets k → (k < length bins) × (first_best (by_sheet better) (enumerate bins) ≡ some (k, get_or bins k no_bin))
+  best_sheet better k f = (
+    omega (arith, size, f.0),
+    ap (first_best (by_sheet better)) (enumerate_range no_bin bins)
+        ∙ first_best_map at (λ i j. better (share_at sheets i) (share_at sheets j)) (by_sheet better) (λ i. i < length bins)
+        (λ i j h l. ap₂ better (share_fitness i h) (share_fitness j l)) (range (length bins)) k (range_below (length bins))
+        (ap (λ (n : ℕ). first_best (λ i j. better (share_at sheets i) (share_at sheets j)) (range n)) (sym size) ∙ f.1),
+  )
 
-  pub worst_index : (k : ℕ) → IsFirstBest areas (length bins) false k → IsWorst bins k
+  pub worst_index : (k : ℕ) → IsFirstBest less_fit sheets k → IsWorst bins k
   unfolding worst_bin
-  worst_index k f = (f.0, best_sheet (better false) k f.1)
+  worst_index k f = best_sheet less_fit k f
 
-  pub donor_index : (k : ℕ) → IsFirstBest areas (length bins) true k → IsBestDonor bins k
+  pub donor_index : (k : ℕ) → IsFirstBest fitter sheets k → IsBestDonor bins k
   unfolding best_donor
-  donor_index k f = (f.0, best_sheet (better true) k f.1)
+  donor_index k f = best_sheet fitter k f
 
 -- the definition's donor has no index
 pub donor_bin : (donor : Candidate) (k : ℕ) → IsBestDonor donor.bins k → best_donor_bin donor ≡ some (get_or donor.bins k no_bin)

@@ -1,16 +1,17 @@
 -- The sheets of a candidate of words: their numbers are in the tables, their pieces are their boards' insertions, and their areas come from those.
-use Prim.Native.Nat.{ℕ, ◌≤◌, ◌<◌}
+use Prim.Native.Nat.{ℕ, ◌+◌, ◌≤◌, ◌<◌}
 use native.Mathlib.Omega.{arith}
 use mathlib.Core.Path.{◌≡◌, sym, ap, ◌∙◌, subst}
 use mathlib.Core.Bool.{Bool}
-use mathlib.Core.List.{List, ◌++◌, map, Memᴰ}
+use mathlib.Core.List.{List, [], ◌∷◌, ◌++◌, map, Memᴰ}
 use mathlib.Core.Option.{some}
 use lib.Dec.{T, eqb}
-use lib.ListN.{length, get_or, take, length-take}
+use lib.ListN.{length, get_or, set, take, length-take}
 use lib.Seq.{get_or-take}
 use Rattle.lists.specs.Base.{sum, range, retain}
 use Rattle.lists.proofs.Perm.{perm_sym, All, all_map, all_both, all_left, all_perm, sum_perm, in_all}
-use Rattle.lists.proofs.Sums.{length-map, sum_append}
+use Rattle.lists.proofs.Sums.{length-map, map_append, sum_append}
+use Rattle.lists.proofs.Arrays.{take_next, take_push}
 use Rattle.lists.proofs.Kept.{retain_sub}
 use Rattle.lists.proofs.Counts.{range_below, get_or_range, length_count_map}
 use Rattle.lists.proofs.Every.{all_get, get_mem, all_of_map}
@@ -32,8 +33,16 @@ use Rattle.candidate.specs.declared.Candidate.{Candidate as Words}
 use Rattle.candidate.specs.Entries.{board_of, cut_of, on_board}
 use Rattle.candidate.specs.Stands.{instance_in, Tables, board_in, cut_in, no_stock, no_cut, insertion_in, making_in, bin_in, sheet_boards, available_boards, placed_words, unused_numbers, candidate_in, Stands}
 use Rattle.candidate.proofs.Standing.{length_sheets, boards_split, boards_below}
-use Rattle.evaluation.specs.declared.Areas.{Areas}
+use Rattle.fitness.specs.declared.SheetAreas.{SheetAreas}
+use Rattle.fitness.specs.Areas.{areas_of}
 use Rattle.evaluation.specs.OnSheets.{word_area, placed_on, InTables, AreasOf, no_bin}
+
+-- ---- a loop that stores a function of another list's elements
+
+pub map_turn : {A B : Type 0} (f : A → B) (l : List A) (m : List B) (k : ℕ) (d : A) (b : B) → k < length l → k < length m → take k m ≡ map f (take k l) → b ≡ f (get_or l k d)
+    → take (k + 1) (set m k b) ≡ map f (take (k + 1) l)
+map_turn f l m k d b h j e v =
+    take_push k m b j ∙ (λ i. e i ++ (v i ∷ [])) ∙ sym (ap (map f) (take_next l k d h) ∙ map_append f (take k l) (get_or l k d ∷ []))
 
 -- ---- the instance that two tables show
 
@@ -197,28 +206,28 @@ module _ (stock cuts : List ℕ) (n : Instance) (later : List ℕ) (c : Words) (
 
   -- ---- both areas of every sheet, as the loop over the sheets finds them
 
-  pub areas_of : (areas : Areas) (by_board : List ℕ) → by_board ≡ map (placed_on cuts (placed_words c)) (range 64)
-      → take c.sheets areas.placed ≡ map (λ b. get_or by_board b 0) (sheet_boards c)
-      → take c.sheets areas.stock ≡ map (λ b. stock_area (stock_at stock b)) (sheet_boards c)
+  pub sheets_areas : (areas : List SheetAreas) (by_board : List ℕ) → by_board ≡ map (placed_on cuts (placed_words c)) (range 64)
+      → take c.sheets areas ≡ map (λ b. record { placed = get_or by_board b 0; board = stock_area (stock_at stock b) }) (sheet_boards c)
       → AreasOf areas (candidate_in shown c).bins
   unfolding candidate_in
-  areas_of areas by_board e p q =
-      let bins : List GuillotineSheet = map (bin_in shown (placed_words c)) (sheet_boards c) in
-      let size : length bins ≡ c.sheets = length-map (bin_in shown (placed_words c)) (sheet_boards c) ∙ length_sheets shown later c s t.ranged in
+  sheets_areas areas by_board e p =
+      let bin : ℕ → GuillotineSheet = bin_in shown (placed_words c) in
+      let bins : List GuillotineSheet = map bin (sheet_boards c) in
+      let size : length bins ≡ c.sheets = length-map bin (sheet_boards c) ∙ length_sheets shown later c s t.ranged in
       let found : (b : ℕ) → b < n.stock → get_or by_board b 0 ≡ placed_on cuts (placed_words c) b =
       λ b h. ap (λ (l : List ℕ). get_or l b 0) e ∙ get_or_range (placed_on cuts (placed_words c)) 0 64 b (omega (arith, t.few_boards))
       in
-      record {
-        placed =
-            ap (λ (m : ℕ). take m areas.placed) size ∙ p
-            ∙ map_same (λ b. placed_area (bin_in shown (placed_words c) b)) (λ b. get_or by_board b 0) (sheet_boards c)
-            (all_both (λ b. b < n.stock) (λ b. placed_area (bin_in shown (placed_words c) b) ≡ placed_on cuts (placed_words c) b) (λ b. get_or by_board b 0 ≡ placed_area (bin_in shown (placed_words c) b))
-            (λ b h m. found b h ∙ sym m) (sheet_boards c) sheets_known bin_placed)
-            ∙ sym (map-map placed_area (bin_in shown (placed_words c)) (sheet_boards c));
-        stock =
-            ap (λ (m : ℕ). take m areas.stock) size ∙ q
-            ∙ map_same (λ b. stock_area (bin_in shown (placed_words c) b).stock) (λ b. stock_area (stock_at stock b)) (sheet_boards c)
-            (all_both (λ b. b < n.stock) (λ b. Made (board_in shown b) (making_in shown (placed_words c) b) (bin_in shown (placed_words c) b)) (λ b. stock_area (stock_at stock b) ≡ stock_area (bin_in shown (placed_words c) b).stock)
-            (λ b h m. ap stock_area (sym (m.stock ∙ board_known stock cuts n b h))) (sheet_boards c) sheets_known (bin_made shown later c s))
-            ∙ sym (map-map (λ (b : GuillotineSheet). stock_area b.stock) (bin_in shown (placed_words c)) (sheet_boards c));
-      }
+      let made : All (λ b. stock_area (stock_at stock b) ≡ stock_area (bin b).stock) (sheet_boards c) =
+      all_both (λ b. b < n.stock) (λ b. Made (board_in shown b) (making_in shown (placed_words c) b) (bin b)) (λ b. stock_area (stock_at stock b) ≡ stock_area (bin b).stock)
+      (λ b h m. ap stock_area (sym (m.stock ∙ board_known stock cuts n b h))) (sheet_boards c) sheets_known (bin_made shown later c s)
+      in
+      let placed : All (λ b. get_or by_board b 0 ≡ placed_area (bin b)) (sheet_boards c) =
+      all_both (λ b. b < n.stock) (λ b. placed_area (bin b) ≡ placed_on cuts (placed_words c) b) (λ b. get_or by_board b 0 ≡ placed_area (bin b))
+      (λ b h m. found b h ∙ sym m) (sheet_boards c) sheets_known bin_placed
+      in
+      ap (λ (m : ℕ). take m areas) size ∙ p
+      ∙ map_same (λ b. areas_of (bin b)) (λ b. record { placed = get_or by_board b 0; board = stock_area (stock_at stock b) }) (sheet_boards c)
+      (all_both (λ b. get_or by_board b 0 ≡ placed_area (bin b)) (λ b. stock_area (stock_at stock b) ≡ stock_area (bin b).stock)
+      (λ b. ◌≡◌ {A = SheetAreas} (record { placed = get_or by_board b 0; board = stock_area (stock_at stock b) }) (areas_of (bin b)))
+      (λ b x y. λ i. record { placed = x i; board = y i }) (sheet_boards c) placed made)
+      ∙ sym (map-map areas_of bin (sheet_boards c))

@@ -1,18 +1,18 @@
 -- The areas of a candidate's sheets, and the sheet that is first best by them.
-use Rattle.std.specs.Prelude.{ℕ, ◌+◌, ◌*◌, ◌≤◌, ◌<◌, ◌≡◌, Bool, List, map, length, get_or, take, Float, if◌then◌else◌}
+use Rattle.std.specs.Prelude.{ℕ, ◌+◌, ◌*◌, ◌≤◌, ◌<◌, ◌≡◌, Bool, List, map, length, get_or, take, Float}
 use Rattle.std.proofs.Math.Option.{Option, some}
 use Rattle.lists.specs.Base.{sum, is_less, is_greater, range, enumerate, first_best}
-use Rattle.model.specs.Types.{cut_area, stock_area}
-use Rattle.model.specs.Sheet.{GuillotineSheet, new_sheet, placed_area}
+use Rattle.model.specs.Types.{cut_area}
+use Rattle.model.specs.Sheet.{GuillotineSheet, new_sheet}
 use Rattle.model.specs.Fitness.{sheet_fitness, compare_float}
 use Rattle.model.specs.Candidate.{CandidateScore, worst_bin, score}
 use Rattle.model.specs.Expand.{ProblemInstance}
 use Rattle.rows.specs.Rows.{cut_words, cut_at}
-use Rattle.fitness.specs.Areas.{share_of}
+use Rattle.fitness.specs.declared.SheetAreas.{SheetAreas}
+use Rattle.fitness.specs.Areas.{areas_of, no_sheet, share_of}
 use Rattle.candidate.specs.Entries.{board_of, cut_of, on_board}
 use Rattle.candidate.specs.declared.Candidate.{Candidate as Words}
 use Rattle.candidate.specs.Stands.{no_stock, candidate_in}
-use Rattle.evaluation.specs.declared.Areas.{Areas}
 
 -- ---- areas
 
@@ -28,24 +28,26 @@ placed_on cuts words board = sum (map (word_area cuts) (on_board board words))
 abbrev pub InTables : List ℕ → ℕ → Type 0
 InTables cuts word = (board_of word < 64) × (cut_words * cut_of word + cut_words ≤ length cuts)
 
--- the areas of sheets, in their order
-pub record AreasOf (areas : Areas) (bins : List GuillotineSheet) : Type 0 where
-  pub placed : take (length bins) areas.placed ≡ map placed_area bins
-  pub stock : take (length bins) areas.stock ≡ map (λ b. stock_area b.stock) bins
+-- the first ones are the areas of sheets, in their order
+abbrev pub AreasOf : List SheetAreas → List GuillotineSheet → Type 0
+AreasOf areas bins = take (length bins) areas ≡ map areas_of bins
 
 -- ---- the first best sheet
 
 -- the fitness of sheet k
-abbrev pub share_at : Areas → ℕ → Float
-share_at areas k = share_of (get_or areas.placed k 0) (get_or areas.stock k 0)
+abbrev pub share_at : List SheetAreas → ℕ → Float
+share_at sheets k = share_of (get_or sheets k no_sheet)
 
--- the fitter of two, or the less fit
-abbrev pub better : Bool → Float → Float → Bool
-better fittest x y = if fittest then is_greater (compare_float x y) else is_less (compare_float x y)
+-- of two fitnesses the first is the less, or the greater
+abbrev pub less_fit : Float → Float → Bool
+less_fit x y = is_less (compare_float x y)
 
--- of so many sheets the one at that index is the first best
-abbrev pub IsFirstBest : Areas → ℕ → Bool → ℕ → Type 0
-IsFirstBest areas sheets fittest k = (k < sheets) × (first_best (λ i j. better fittest (share_at areas i) (share_at areas j)) (range sheets) ≡ some k)
+abbrev pub fitter : Float → Float → Bool
+fitter x y = is_greater (compare_float x y)
+
+-- the sheet at that index is the first best
+abbrev pub IsFirstBest : (Float → Float → Bool) → List SheetAreas → ℕ → Type 0
+IsFirstBest better sheets k = (k < length sheets) × (first_best (λ i j. better (share_at sheets i) (share_at sheets j)) (range (length sheets)) ≡ some k)
 
 abbrev pub no_bin : GuillotineSheet
 no_bin = new_sheet no_stock

@@ -1,7 +1,7 @@
 // What a candidate is worth: the areas and the fitness of its sheets, its validity and its score.
 #![tactic(auto)]
 
-ghost use Rattle.std.specs.Prelude.{◌≡◌, List, [], map, ◌≤◌, ◌<◌, ◌^◌, length, take};
+ghost use Rattle.std.specs.Prelude.{◌≡◌, List, [], map, ◌≤◌, ◌<◌, ◌^◌, Bool, Float, length, take, sum_by};
 ghost use Rattle.std.proofs.Math.Option.{some};
 ghost use Rattle.lists.specs.Base.{sum, range};
 ghost use Rattle.lists.proofs.Perm.{All};
@@ -10,22 +10,17 @@ ghost use Rattle.model.specs.Candidate.{is_valid};
 ghost use Rattle.model.specs.Expand.{ProblemInstance};
 ghost use Rattle.trust.proofs.Winner.{Admitted};
 ghost use Rattle.scores.specs.Scores.{score_of};
+ghost use Rattle.fitness.specs.Areas.{areas_of};
 ghost use Rattle.candidate.specs.Entries.{cut_of};
 ghost use Rattle.candidate.specs.Stands.{instance_in, Tables, candidate_in, Stands, placed_words};
-ghost use Rattle.evaluation.specs.OnSheets.{word_area, placed_on, InTables, AreasOf, better, IsFirstBest, IsWorst, IsBestDonor, score_in};
-ghost use Rattle.evaluation.specs.Keys.{elem, repeats};
+ghost use Rattle.evaluation.specs.OnSheets.{word_area, placed_on, InTables, AreasOf, IsFirstBest, IsWorst, IsBestDonor, score_in};
+ghost use Rattle.evaluation.specs.Keys.{repeats};
 
 use candidate::{Candidate, Instance};
+use fitness::SheetAreas;
 use scores::CandidateScore;
 
 // ---- areas and fitness of the sheets
-
-// Of each sheet its placed area and its board's area.
-#[derive(Clone, Copy)]
-pub struct Areas {
-    pub placed: [u64; 64],
-    pub stock: [u64; 64],
-}
 
 // The area placed on each board, by the board's number.
 fn placed_on_boards(cuts: &[u32], insertions: &[u32]) -> [u64; 64]
@@ -33,127 +28,91 @@ fn placed_on_boards(cuts: &[u32], insertions: &[u32]) -> [u64; 64]
     ensures { result ≡ map (placed_on cuts.now insertions.now) (range 64) }
 {
     let mut areas = [0u64; 64];
-    let mut i: usize = 0;
-    while i < insertions.len() {
-        let word = insertions[i];
-        let board = candidate::board_of(word) as usize;
-        let cut = rows::cut_at(cuts, candidate::cut_of(word) as usize);
-        areas[board] = areas[board] + numbers::area(cut.width, cut.length);
-        i += 1;
+    for word in insertions {
+        let board = candidate::board_of(*word) as usize;
+        let cut = rows::cut_at(cuts, candidate::cut_of(*word) as usize);
+        areas[board] += numbers::area(cut.width, cut.length);
     }
     areas
 }
 
-// The placed area and the board's area of each sheet.
-pub fn sheet_areas(stock: &[u32], cuts: &[u32], inst: Instance, c: Candidate) -> Areas
+// The areas of each sheet; behind them zeros.
+pub fn sheet_areas(stock: &[u32], cuts: &[u32], inst: Instance, c: Candidate) -> [SheetAreas; 64]
     requires { Tables stock.now cuts.now inst × Stands (instance_in stock.now cuts.now inst) [] c }
     ensures { AreasOf result (candidate_in (instance_in stock.now cuts.now inst) c).bins }
 {
-    let insertions = c.insertions;
-    let by_board = placed_on_boards(cuts, &insertions[..c.placed]);
-    let mut placed = [0u64; 64];
-    let mut areas = [0u64; 64];
-    let mut k: usize = 0;
-    while k < c.sheets {
+    let placed = placed_on_boards(cuts, &c.insertions[..c.placed]);
+    let mut areas = [SheetAreas {
+        placed: 0,
+        board: 0,
+    }; 64];
+    for k in 0..c.sheets {
         let board = c.boards[k] as usize;
         let s = rows::stock_at(stock, board);
-        placed[k] = by_board[board];
-        areas[k] = numbers::area(s.width, s.length);
-        k += 1;
+        areas[k] = SheetAreas {
+            placed: placed[board],
+            board: numbers::area(s.width, s.length),
+        };
     }
-    Areas {
-        placed: placed,
-        stock: areas,
-    }
+    areas
 }
 
-// Whether a sheet of fitness `f` takes the place of the best so far: the fitter of two, or the less fit.
-fn is_better(fittest: bool, f: f64, best: f64) -> bool
-    ensures { result ≡ better fittest f best }
+// The first sheet whose fitness is better than that of any other.
+fn first_best<F: Fn(f64, f64) -> bool>(sheets: &[SheetAreas], better: F) -> usize
+    ghost order: { Float → Float → Bool }
+    requires some { 0 < length sheets.now }
+    requires callable { (x y : Float) → F.pre better x y }
+    requires ordered { (x y : Float) (b : Bool) → F.post better x y b → b ≡ order x y }
+    ensures { IsFirstBest order sheets.now result }
 {
-    if fittest {
-        return scores::is_fitter(f, best);
-    }
-    scores::is_less_fit(f, best)
-}
-
-// The first fittest sheet, or the first least fit one.
-fn first_best(areas: Areas, sheets: usize, fittest: bool) -> usize
-    requires { (0 < sheets) × (sheets ≤ 64) }
-    ensures { IsFirstBest areas sheets fittest result }
-{
-    let mut best: usize = 0;
-    let mut held = fitness::sheet_fitness(areas.placed[0], areas.stock[0]);
-    let mut k: usize = 1;
-    while k < sheets {
-        let f = fitness::sheet_fitness(areas.placed[k], areas.stock[k]);
-        if is_better(fittest, f, held) {
+    let mut best = 0;
+    let mut held = fitness::sheet_fitness(sheets[0]);
+    for k in 1..sheets.len() {
+        let f = fitness::sheet_fitness(sheets[k]);
+        if better(f, held) {
             best = k;
             held = f;
         }
-        k += 1;
     }
     best
 }
 
 // The first least fit sheet.
-pub fn worst_bin_index(areas: Areas, sheets: usize) -> usize
-    requires { (0 < sheets) × (sheets ≤ 64) }
-    ensures { (bins : List GuillotineSheet) → length bins ≡ sheets → AreasOf areas bins → IsWorst bins result }
+pub fn worst_bin_index(sheets: &[SheetAreas]) -> usize
+    requires { 0 < length sheets.now }
+    ensures { (bins : List GuillotineSheet) → sheets.now ≡ map areas_of bins → IsWorst bins result }
 {
-    first_best(areas, sheets, false)
+    first_best(sheets, |f, best| scores::is_less_fit(f, best))
 }
 
 // The first fittest sheet.
-pub fn best_donor_bin_index(areas: Areas, sheets: usize) -> usize
-    requires { (0 < sheets) × (sheets ≤ 64) }
-    ensures { (bins : List GuillotineSheet) → length bins ≡ sheets → AreasOf areas bins → IsBestDonor bins result }
+pub fn best_donor_bin_index(sheets: &[SheetAreas]) -> usize
+    requires { 0 < length sheets.now }
+    ensures { (bins : List GuillotineSheet) → sheets.now ≡ map areas_of bins → IsBestDonor bins result }
 {
-    first_best(areas, sheets, true)
+    first_best(sheets, |f, best| scores::is_fitter(f, best))
 }
 
 // ---- validity and score
-
-// Whether a key is one of `keys`.
-pub fn contains_key(keys: &[u32], key: u32) -> bool
-    ensures { result ≡ elem key keys.now }
-{
-    let mut i: usize = 0;
-    while i < keys.len() {
-        if keys[i] == key {
-            return true;
-        }
-        i += 1;
-    }
-    false
-}
 
 // Whether a key is there twice: each is looked for in the part behind it.
 fn has_duplicate_placed_cut_keys(keys: &[u32]) -> bool
     ensures { result ≡ repeats keys.now }
 {
-    let mut i: usize = 0;
-    while i < keys.len() {
-        if contains_key(&keys[i + 1..], keys[i]) {
+    for (i, key) in keys.iter().enumerate() {
+        if keys[i + 1..].contains(key) {
             return true;
         }
-        i += 1;
     }
     false
 }
 
-// The cuts placed, in the order they were placed; the rest is zero.
+// The cuts placed, in the order they were placed, and others behind them.
 pub fn placed_cuts(c: Candidate) -> [u32; 64]
     requires { c.placed ≤ 64 }
     ensures { take c.placed result ≡ map cut_of (placed_words c) }
 {
-    let mut keys = [0u32; 64];
-    let mut i: usize = 0;
-    while i < c.placed {
-        keys[i] = candidate::cut_of(c.insertions[i]);
-        i += 1;
-    }
-    keys
+    c.insertions.map(candidate::cut_of)
 }
 
 pub fn is_valid(c: Candidate) -> bool
@@ -164,21 +123,21 @@ pub fn is_valid(c: Candidate) -> bool
         return false;
     }
     let keys = placed_cuts(c);
-    let count = c.placed;
-    !has_duplicate_placed_cut_keys(&keys[..count])
+    !has_duplicate_placed_cut_keys(&keys[..c.placed])
 }
 
-fn sum_areas(areas: &[u64]) -> u64
-    requires { sum areas.now < 2 ^ 64 }
-    ensures { result ≡ sum areas.now }
+fn used_stock_area(sheets: &[SheetAreas]) -> u64
+    requires { sum_by (λ s. s.board) sheets.now < 2 ^ 64 }
+    ensures { result ≡ sum_by (λ s. s.board) sheets.now }
 {
-    let mut total: u64 = 0;
-    let mut i: usize = 0;
-    while i < areas.len() {
-        total += areas[i];
-        i += 1;
-    }
-    total
+    sheets.iter().map(|s| s.board).sum()
+}
+
+fn placed_cut_area(sheets: &[SheetAreas]) -> u64
+    requires { sum_by (λ s. s.placed) sheets.now < 2 ^ 64 }
+    ensures { result ≡ sum_by (λ s. s.placed) sheets.now }
+{
+    sheets.iter().map(|s| s.placed).sum()
 }
 
 pub fn score(stock: &[u32], cuts: &[u32], inst: Instance, c: Candidate) -> CandidateScore
@@ -186,14 +145,12 @@ pub fn score(stock: &[u32], cuts: &[u32], inst: Instance, c: Candidate) -> Candi
     ensures { score_in (instance_in stock.now cuts.now inst) c ≡ some (score_of result) }
 {
     let areas = sheet_areas(stock, cuts, inst, c);
-    let sheets = c.sheets;
-    let placed = areas.placed;
-    let boards = areas.stock;
-    let used = sum_areas(&boards[..sheets]);
-    let cut = sum_areas(&placed[..sheets]);
+    let sheets = &areas[..c.sheets];
+    let used = used_stock_area(sheets);
+    let cut = placed_cut_area(sheets);
     CandidateScore {
-        used_stock_count: sheets,
+        used_stock_count: c.sheets,
         waste_area: used - cut,
-        fitness: fitness::fitness(&placed, &boards, sheets),
+        fitness: fitness::fitness(sheets),
     }
 }

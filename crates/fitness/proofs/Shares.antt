@@ -1,26 +1,42 @@
 -- The loop over the sheets: what is left, added to what is summed, gives what the whole gives.
-use Rattle.std.proofs.Common.{◌≡◌, ℕ, ◌+◌, ◌<◌, ◌≤◌, List, length, get_or, take, drop, eq-eqb, ne_eqb}
-use mathlib.Core.Option
+use Rattle.std.proofs.Common.{◌≡◌, ℕ, ◌+◌, ◌<◌, ◌≤◌, List, length, get_or, drop, eq-eqb, ne_eqb, Option, Some, None, unwrap_or}
+use Rattle.std.proofs.Math.Option as Defined
+use lib.ListN.{drop_of_length-le}
 use lib.Ieee.{Float, binary64, add, div}
 use Rattle.lists.specs.Base.{sum}
-use Rattle.lists.proofs.Arrays.{drop_within, drop_past}
+use Rattle.lists.specs.Language.{option_of}
+use Rattle.lists.proofs.Arrays.{drop_next}
 use Rattle.model.specs.Fitness.{weight, positive_zero}
-use Rattle.fitness.specs.Areas.{weighted_share, add_shares, fitness_of}
+use Rattle.fitness.specs.declared.SheetAreas.{SheetAreas}
+use Rattle.fitness.specs.Areas.{weighted_share, add_shares, board_areas, fitness_of}
 
-module _ (placed areas : List ℕ) (n i : ℕ) (p : n ≤ length placed) (a : n ≤ length areas) (s : Float) where
-  pub shares_step : i < n → add_shares (add binary64 s (weighted_share (get_or placed i 0) (get_or areas i 0))) (drop (i + 1) (take n placed)) (drop (i + 1) (take n areas)) ≡ add_shares s (drop i (take n placed)) (drop i (take n areas))
+module _ (sheets : List SheetAreas) (i : ℕ) where
+  pub shares_step : (s : Float) (d : SheetAreas) → i < length sheets → add_shares (add binary64 s (weighted_share (get_or sheets i d))) (drop (i + 1) sheets) ≡ add_shares s (drop i sheets)
   unfolding add_shares
-  shares_step h = rw (drop_within n placed i 0 h p, drop_within n areas i 0 h a)
+  shares_step s d h = rw (drop_next sheets i d h)
 
-  pub shares_end : n ≤ i → s ≡ add_shares s (drop i (take n placed)) (drop i (take n areas))
+  pub shares_end : (s : Float) → length sheets ≤ i → s ≡ add_shares s (drop i sheets)
   unfolding add_shares
-  shares_end h = rw (drop_past n i placed h)
+  shares_end s h = rw (drop_of_length-le sheets h)
 
-module _ (placed areas : List ℕ) where
-  pub fitness_none : sum areas ≡ 0 → positive_zero ≡ Option.get_or (fitness_of placed areas) positive_zero
-  unfolding fitness_of
-  fitness_none h = rw (eq-eqb (sum areas) 0 h)
+  pub boards_step : (d : SheetAreas) → i < length sheets → board_areas (drop i sheets) ≡ (get_or sheets i d).board + board_areas (drop (i + 1) sheets)
+  unfolding sum
+  boards_step d h = rw (drop_next sheets i d h)
 
-  pub fitness_some : (sum areas ≡ 0 → ⊥) → div binary64 (add_shares positive_zero placed areas) (weight (sum areas)) ≡ Option.get_or (fitness_of placed areas) positive_zero
+  pub boards_end : length sheets ≤ i → board_areas (drop i sheets) ≡ 0
+  unfolding sum
+  boards_end h = rw (drop_of_length-le sheets h)
+
+module _ (sheets : List SheetAreas) where
+  pub fitness_none : board_areas sheets ≡ 0 → Defined.none ≡ fitness_of sheets
   unfolding fitness_of
-  fitness_some h = rw (ne_eqb (sum areas) 0 h)
+  fitness_none h = rw (eq-eqb (board_areas sheets) 0 h)
+
+  pub fitness_some : (board_areas sheets ≡ 0 → ⊥) → Defined.some (div binary64 (add_shares positive_zero sheets) (weight (board_areas sheets))) ≡ fitness_of sheets
+  unfolding fitness_of
+  fitness_some h = rw (ne_eqb (board_areas sheets) 0 h)
+
+-- the fitness, or zero where there is none, is the definitions'
+pub or_zero : (o : Option Float) (f : Defined.Option Float) → option_of o ≡ f → unwrap_or o positive_zero ≡ Defined.get_or f positive_zero
+or_zero None f e = rw (← e)
+or_zero (Some x) f e = rw (← e)

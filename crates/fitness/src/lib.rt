@@ -1,12 +1,19 @@
 // Fitness in f64, each quotient, product and sum rounded once, in sheet order.
 #![tactic(auto)]
 
-ghost use Rattle.std.specs.Prelude.{◌≡◌, ◌^◌, ◌<◌, ◌≤◌, length, take, to_bits};
+ghost use Rattle.std.specs.Prelude.{◌≡◌, ◌^◌, ◌<◌, ◌≤◌, to_bits};
 ghost use Rattle.std.proofs.Math.Option.{get_or};
 ghost use Rattle.std.specs.Float.{binary64};
-ghost use Rattle.lists.specs.Base.{sum};
+ghost use Rattle.lists.specs.Language.{option_of};
 ghost use Rattle.model.specs.Fitness.{weight, positive_zero};
-ghost use Rattle.fitness.specs.Areas.{share_of, fitness_of, Inside};
+ghost use Rattle.fitness.specs.Areas.{share_of, board_areas, fitness_of, Inside};
+
+// A sheet's placed area and its board's area.
+#[derive(Clone, Copy)]
+pub struct SheetAreas {
+    pub placed: u64,
+    pub board: u64,
+}
 
 fn area_as_fitness_weight(area: u64) -> f64
     ensures { result ≡ weight area }
@@ -14,40 +21,36 @@ fn area_as_fitness_weight(area: u64) -> f64
     std::num::nearest_u64_to_f64(area)
 }
 
-// The fitness of a sheet, by its placed area and its board's area.
-pub fn sheet_fitness(placed: u64, area: u64) -> f64
-    ensures { result ≡ share_of placed area }
+pub fn sheet_fitness(sheet: SheetAreas) -> f64
+    ensures { result ≡ share_of sheet }
 {
-    if area == 0 {
+    if sheet.board == 0 {
         return 0.0;
     }
-    area_as_fitness_weight(placed) / area_as_fitness_weight(area)
+    area_as_fitness_weight(sheet.placed) / area_as_fitness_weight(sheet.board)
 }
 
-// The fitness of the first n sheets; 0.0 where there is none.
-pub fn fitness(placed: &[u64], areas: &[u64], n: usize) -> f64
-    requires { (n ≤ length placed.now) × (n ≤ length areas.now) × (sum (take n areas.now) < 2 ^ 64) }
-    ensures { result ≡ get_or (fitness_of (take n placed.now) (take n areas.now)) positive_zero }
+// The fitness of sheets; none where they have no area.
+pub fn fitness(sheets: &[SheetAreas]) -> Option<f64>
+    requires { board_areas sheets.now < 2 ^ 64 }
+    ensures { option_of result ≡ fitness_of sheets.now }
 {
     let mut weighted = 0.0;
     let mut total: u64 = 0;
-    let mut i = 0;
-    while i < n {
-        let area = areas[i];
-        weighted = weighted + sheet_fitness(placed[i], area) * area_as_fitness_weight(area);
-        total += area;
-        i += 1;
+    for sheet in sheets {
+        weighted += sheet_fitness(*sheet) * area_as_fitness_weight(sheet.board);
+        total += sheet.board;
     }
     if total == 0 {
-        return 0.0;
+        return None;
     }
-    weighted / area_as_fitness_weight(total)
+    Some(weighted / area_as_fitness_weight(total))
 }
 
-// The bits of that fitness, which is no NaN where no sheet has more placed on it than its board's area.
-pub fn fitness_bits(placed: &[u64], areas: &[u64], n: usize) -> u64
-    requires { (n ≤ length placed.now) × (n ≤ length areas.now) × (sum (take n areas.now) ≤ 2 ^ 53) × Inside (take n placed.now) (take n areas.now) }
-    ensures { result ≡ to_bits binary64 (get_or (fitness_of (take n placed.now) (take n areas.now)) positive_zero) }
+// The bits of that fitness, or of 0.0 where there is none: no NaN, where no sheet has more placed on it than its board's area.
+pub fn fitness_bits(sheets: &[SheetAreas]) -> u64
+    requires { (board_areas sheets.now ≤ 2 ^ 53) × Inside sheets.now }
+    ensures { result ≡ to_bits binary64 (get_or (fitness_of sheets.now) positive_zero) }
 {
-    f64::to_bits(fitness(placed, areas, n))
+    f64::to_bits(fitness(sheets).unwrap_or(0.0))
 }

@@ -1,14 +1,12 @@
--- The answer of `fit_cut_in_rects` as the list of document 01.
-use Rattle.std.specs.Prelude.{Bool, List, [], ◌∷◌, if◌then◌else◌}
+-- The answer of `fit_cut_in_rects` as the definitions' list.
+use Rattle.std.specs.Prelude.{Bool, Option, List, [], ◌∷◌, option_to_list, if◌then◌else◌}
+use Rattle.std.specs.List.{flat_map}
 use Rattle.model.specs.declared.FitResult.{FitResult}
-use Rattle.fits.specs.declared.Fits.{Fits}
-use Rattle.fits.specs.declared.Fits.TheVariants.{Nothing, One, Two}
 
-abbrev pub fits_of : Fits → List FitResult
-fits_of Nothing = []
-fits_of (One f) = f ∷ []
-fits_of (Two f g) = f ∷ g ∷ []
+-- the fits that are there, in order
+abbrev pub fits_of : List (Option FitResult) → List FitResult
+fits_of fits = flat_map option_to_list fits
 
--- an `Option` of the source as a list
+-- a fit, where it is there
 unfoldable pub if_lies : Bool → FitResult → List FitResult
 if_lies lies f = if lies then f ∷ [] else []

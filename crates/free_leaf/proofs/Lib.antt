@@ -1,2 +1,3 @@
-pub mod Sizes
+pub mod Nodes
 pub mod Searches
+pub mod Sizes

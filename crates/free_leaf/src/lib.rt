@@ -1,70 +1,49 @@
-// The search for a free leaf in the words of a guide, whose nodes are numbered in preorder: a cut before its first and its second child.
+// The search for a free leaf in the words of a guide: a row of eight for each node, in preorder, a cut before its first and its second child.
 #![tactic(auto)]
 
-ghost use Rattle.std.specs.Prelude.{◌≡◌, ◌+◌, ◌*◌, ◌≤◌, length};
-ghost use Rattle.model.specs.Types.{same_rect};
-ghost use Rattle.free_leaf.specs.Leaves.{rect_at, leaf_at, Formed, Ends};
+ghost use Rattle.std.specs.Prelude.{◌≡◌};
+ghost use Rattle.free_leaf.specs.Leaves.{is_free_row, Ends, Finds};
 
 use model::Rect;
+use std::ops::ControlFlow;
 
-// Where a search ends: at the node looked for, or past the nodes of the tree.
-#[derive(Clone, Copy)]
-pub enum Found {
-    At(usize),
-    Past(usize),
+fn is_free_leaf(node: &[u32; 8], target: Rect) -> bool
+    ensures { result ≡ is_free_row target node.now }
+{
+    let [kind, _, _, _, x, y, width, length] = *node;
+    let rect = Rect {
+        x,
+        y,
+        width,
+        length,
+    };
+    kind == 2 && rect == target
 }
 
-fn same_rect(a: Rect, b: Rect) -> bool
-    ensures { result ≡ same_rect a b }
+// In the tree whose root is node `at`, first child before second. The search breaks off at the leaf's number, or goes on with the number past the tree.
+// Children come after their parent, so that the node count minus the number falls. The rows run out only where they are no tree's.
+fn free_leaf_from(nodes: &[[u32; 8]], at: usize, target: Rect) -> ControlFlow<usize, usize>
+    ensures { Ends nodes.now at target result }
 {
-    if a.x != b.x {
-        return false;
+    let Some(node) = nodes.get(at) else {
+        return ControlFlow::Continue(at);
+    };
+    let is_cut = node[0] == 0;
+    if is_cut {
+        let second = free_leaf_from(nodes, at + 1, target)?;
+        return free_leaf_from(nodes, second, target);
     }
-    if a.y != b.y {
-        return false;
-    }
-    if a.width != b.width {
-        return false;
-    }
-    a.length == b.length
-}
-
-fn rect_at(words: &[u32], p: usize) -> Rect
-    requires { p + 4 ≤ length words.now }
-    ensures { result ≡ rect_at words.now p }
-{
-    Rect {
-        x: words[p],
-        y: words[p + 1],
-        width: words[p + 2],
-        length: words[p + 3],
+    if is_free_leaf(node, target) {
+        ControlFlow::Break(at)
+    } else {
+        ControlFlow::Continue(at + 1)
     }
 }
 
-fn leaf_at(words: &[u32], at: usize, target: Rect) -> Found
-    requires { 8 * at + 8 ≤ length words.now }
-    ensures { result ≡ leaf_at words.now at target }
+// The number of the first node that is a free leaf of this rectangle, in the words of a whole tree.
+pub fn find_free_leaf(words: &[u32], target: Rect) -> Option<usize>
+    ensures { Finds words.now target result }
 {
-    if words[8 * at] != 2 {
-        return Found::Past(at + 1);
-    }
-    if same_rect(rect_at(words, 8 * at + 4), target) {
-        return Found::At(at);
-    }
-    Found::Past(at + 1)
-}
-
-// In the tree whose root is node `at`: first child before second.
-pub fn find_free_leaf(words: &[u32], count: usize, at: usize, target: Rect) -> Found
-    requires { (8 * count ≤ length words.now) × Formed words.now count at }
-    ensures { Ends words.now count at target result }
-{
-    if words[8 * at] != 0 {
-        return leaf_at(words, at, target);
-    }
-    let first = find_free_leaf(words, count, at + 1, target);
-    match first {
-        Found::At(i) => Found::At(i),
-        Found::Past(second) => find_free_leaf(words, count, second, target),
-    }
+    let (nodes, _) = words.as_chunks::<8>();
+    free_leaf_from(nodes, 0, target).break_value()
 }

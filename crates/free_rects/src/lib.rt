@@ -1,73 +1,116 @@
-// The free rectangles of a sheet by value: `swap_remove` and `push` of a vector, and the split of a rectangle
-// (`split_free_rect_in_direction`).
+// A sheet's free rectangles, a vector of bounded length, and the split of one of them (`split_free_rect_in_direction`).
 #![tactic(auto)]
 
-ghost use Rattle.std.specs.Prelude.{◌≡◌, ◌∷◌, [], ◌++◌, ◌≤◌, ◌<◌};
+ghost use Rattle.std.specs.Prelude.{◌≡◌, ◌∷◌, [], ◌++◌, ◌+◌, ◌≤◌, ◌<◌, length, set, option_to_list};
 ghost use Rattle.lists.specs.Base.{swap_remove};
 ghost use Rattle.model.specs.Types.{no_rect};
 ghost use Rattle.model.specs.Split.{split_free_rect};
-ghost use Rattle.split.specs.Remainders.{remainder_of};
 ghost use Rattle.split.specs.Bounds.{Small, Inside};
-ghost use Rattle.free_rects.specs.FreeList.{rects_of, Holds};
 
 use model::{Direction, Rect};
-use split::Remainder;
+use std::marker::Model;
 
 // A sheet of 64 pieces has at most 65 free rectangles.
-#[derive(Clone, Copy)]
+pub const MOST_RECTS: usize = 65;
+
+#[derive(Drop)]
 pub struct FreeRects {
-    pub rects: [Rect; 65],
-    pub count: usize,
+    rects: [Rect; MOST_RECTS],
+    count: usize,
 }
 
-fn push(free: FreeRects, rect: Rect) -> FreeRects
-    requires { free.count < 65 }
-    ensures { Holds result (rects_of free ++ (rect ∷ [])) }
-{
-    let mut after = free;
-    let count = after.count;
-    after.rects[count] = rect;
-    after.count = count + 1;
-    after
+// Clauses see the rectangles that count.
+impl Model for FreeRects {
+    ghost use Rattle.std.specs.Prelude.{List, ◌≤◌, take};
+    ghost use Rattle.model.specs.declared.Rect.{Rect};
+    ghost use Rattle.free_rects.specs.declared.TheConstants.{MOST_RECTS};
+
+    ghost Value = { List Rect };
+
+    ghost view = { λ free. take free.count free.rects };
+
+    ghost invariant = { λ free. free.count ≤ MOST_RECTS };
 }
 
-// The last rectangle takes the place of the one at the index.
-pub fn swap_remove(free: FreeRects, index: usize) -> FreeRects
-    requires { (index < free.count) × (free.count ≤ 65) }
-    ensures { Holds result (swap_remove no_rect index (rects_of free)) }
-{
-    let mut after = free;
-    let count = after.count - 1;
-    let last = after.rects[count];
-    after.rects[index] = last;
-    after.count = count;
-    after
-}
+impl FreeRects {
+    pub fn new() -> Self
+        ensures { result ≡ [] }
+    {
+        let none = Rect {
+            x: 0,
+            y: 0,
+            width: 0,
+            length: 0,
+        };
+        FreeRects {
+            rects: [none; MOST_RECTS],
+            count: 0,
+        }
+    }
 
-// ---- splitting
+    pub fn as_slice(&self) -> &[Rect]
+        ensures value { result.now ≡ self.now }
+        ensures within { length self.now ≤ MOST_RECTS }
+    {
+        &self.rects[..self.count]
+    }
 
-fn push_remainder(free: FreeRects, remainder: Remainder) -> FreeRects
-    requires { free.count < 65 }
-    ensures { Holds result (rects_of free ++ remainder_of remainder) }
-{
-    match remainder {
-        Remainder::Nothing => free,
-        Remainder::One(rect) => push(free, rect),
+    pub fn len(&self) -> usize
+        ensures value { result ≡ length self.now }
+        ensures within { length self.now ≤ MOST_RECTS }
+    {
+        self.as_slice().len()
+    }
+
+    pub fn set(&mut self, index: usize, rect: Rect)
+        requires { index < length self.old }
+        ensures { self.new ≡ set self.old index rect }
+    {
+        self.rects[..self.count][index] = rect;
+    }
+
+    pub fn push(&mut self, rect: Rect)
+        requires { length self.old < MOST_RECTS }
+        ensures { self.new ≡ self.old ++ (rect ∷ []) }
+    {
+        self.rects[self.count] = rect;
+        self.count += 1;
+    }
+
+    // The last rectangle takes the place of the one at the index.
+    pub fn swap_remove(&mut self, index: usize)
+        requires { index < length self.old }
+        ensures { self.new ≡ swap_remove no_rect index self.old }
+    {
+        self.count -= 1;
+        self.rects[index] = self.rects[self.count];
+    }
+
+    // What a split leaves of a rectangle, if anything, behind the last.
+    pub fn push_remainder(&mut self, remainder: Option<Rect>)
+        requires { length self.old < MOST_RECTS }
+        ensures { self.new ≡ self.old ++ option_to_list remainder }
+    {
+        if let Some(rect) = remainder {
+            self.push(rect);
+        }
     }
 }
 
 // The bottom remainder is pushed first.
+#[tactic(auto, unfolding(model::specs::Split::split_free_rect))]
 pub fn split_free_rect_in_direction(
-    free: FreeRects,
+    free: &mut FreeRects,
     free_rect: Rect,
     placed: Rect,
     kerf_width: u32,
     direction: Direction,
-) -> FreeRects
-    requires { (free.count < 64) × Small free_rect × Inside placed free_rect }
-    ensures { Holds result (rects_of free ++ split_free_rect direction kerf_width free_rect placed) }
+)
+    requires { (length free.old + 1 < MOST_RECTS) × Small free_rect × Inside placed free_rect }
+    ensures { free.new ≡ free.old ++ split_free_rect direction kerf_width free_rect placed }
 {
     let bottom = split::bottom_remainder(free_rect, placed, kerf_width, direction);
     let right = split::right_remainder(free_rect, placed, kerf_width, direction);
-    push_remainder(push_remainder(free, bottom), right)
+    free.push_remainder(bottom);
+    free.push_remainder(right);
 }

@@ -1,4 +1,9 @@
 -- The guide that words start with, through each step of its sheet's making.
+use Rattle.std.specs.Prelude.{Some, None, cond, position}
+use Rattle.std.specs.Prelude as Language
+use Rattle.std.proofs.lemmas.Option.{cond_some, none-some}
+use borrow.Author.Tests.{ltb-true, ltb-false}
+use lib.Dec.{ltb}
 use mathlib.Core.Path.{◌≡◌, refl, sym, ap, ◌∙◌, subst}
 use mathlib.Core.Bool.{Bool, true, false}
 use mathlib.Core.List.{List, ◌++◌}
@@ -8,25 +13,24 @@ use native.Mathlib.Omega.{arith}
 use lib.ListN.{length, take, drop, length-append}
 use lib.Seq.{take_at}
 use Rattle.lists.specs.Base.{◌>>=◌}
+use Rattle.lists.specs.Parts.{patch}
 use Rattle.trust.proofs.RoundTrip.{node_size_lem, nodes_size}
 use Rattle.model.specs.declared.Rect.{Rect}
 use Rattle.model.specs.declared.Direction.{Direction}
 use Rattle.model.specs.declared.CutInstance.{CutInstance}
 use Rattle.model.specs.Guide.{SliceNode, cut, leaf, free, insert_subtree, replace_free_leaf}
 use Rattle.model.specs.Plan.{node_words, preorder, nodes_of}
-use Rattle.subtree.specs.declared.Node.{Node}
 use Rattle.subtree.specs.declared.Subtree.{Subtree}
-use Rattle.subtree.specs.Words.{words_of, subtree_words, guide_words, tree_words}
+use Rattle.subtree.specs.Words.{subtree_words, guide_words, tree_words}
 use Rattle.subtree.proofs.Trees.{guide_words_some, guide_words_none, tree_words_leaf, holds_fits}
-use Rattle.free_leaf.specs.declared.Found.{Found}
-use Rattle.free_leaf.specs.Leaves.{size, Reads, Formed, Ends}
+use Rattle.free_leaf.specs.Leaves.{is_free_leaf, size, Finds}
 use Rattle.free_leaf.proofs.Sizes.{size_cut, size_leaf}
 use Rattle.splice.specs.Splices.{spliced}
 use Rattle.splice.proofs.Subtrees.{subtree_length}
 use Rattle.splice.proofs.Splices.{spliced_is}
 use Rattle.subtree.specs.Words.{Holds}
 use Rattle.guide.specs.Words.{Became, Becomes, Replaces, Guided, split_guide, next_guide}
-use Rattle.guide.proofs.Outcomes.{reads_part, Spliced, Outcome, outcome}
+use Rattle.guide.proofs.Outcomes.{Spliced, first_of, outcome}
 
 -- ---- counts
 
@@ -43,11 +47,6 @@ size_pos (cut c a b) = omega (arith, size_cut c a b)
 size_pos (leaf r k) = omega (arith, size_leaf r k)
 
 module _ (w : List ℕ) (n : ℕ) where
-  holds_reads : (t : SliceNode) → Holds w n (some t) → Reads w n 0 t
-  holds_reads t h =
-      let all : n ≡ size t = h.counts ∙ size_some t in
-      reads_part w n 0 t (omega arith) (ap (λ (m : ℕ). take (8 * m) w) (sym all) ∙ h.reads ∙ guide_words_some t)
-
   pub holds_absent : Holds w n none → n ≡ 0
   holds_absent h = h.counts ∙ size_none
 
@@ -59,13 +58,6 @@ module _ (w : List ℕ) (n : ℕ) where
 
   pub guided_fits : Guided w n → 8 * n ≤ length w
   guided_fits g = holds_fits w n g.guide g.holds
-
-  pub guided_formed : 0 < n → Guided w n → Formed w n 0
-  guided_formed k g = go g.guide g.holds
-    where
-      go : (o : Option SliceNode) → Holds w n o → Formed w n 0
-      go none h = empty_none k h
-      go (some t) h = record { tree = t; reads = holds_reads t h }
 
 -- what was made is what stands there
 pub became_holds : (before after : List ℕ) (n : ℕ) (g : Option SliceNode) → Became before after n g → Holds after n g
@@ -80,50 +72,66 @@ became_none w = record { counts = sym size_none; words = ap (λ (l : List ℕ). 
 
 -- ---- a new guide
 
-pub new_became : (w w' : List ℕ) (board : Rect) (node : Node) → words_of node ≡ node_words (leaf board free) → w' ≡ words_of node ++ drop 8 w
-    → Became w w' 1 (some (leaf board free))
-new_became w w' board node e f =
+pub new_became : (w w' : List ℕ) (board : Rect) → w' ≡ patch w (8 * 0) (node_words (leaf board free)) → Became w w' 1 (some (leaf board free))
+new_became w w' board f =
+    let node : List ℕ = node_words (leaf board free) in
+    let size : 8 * 0 + length node ≡ 8 = omega (arith, node_size_lem (leaf board free)) in
     record {
       counts = sym (size_some (leaf board free) ∙ size_leaf board free);
-      words = f ∙ ap (λ (l : List ℕ). l ++ drop 8 w) (e ∙ sym (guide_words_some (leaf board free) ∙ tree_words_leaf board free));
+      words = f ∙ ap (λ (n : ℕ). node ++ drop n w) size ∙ ap (λ (l : List ℕ). l ++ drop 8 w) (sym (guide_words_some (leaf board free) ∙ tree_words_leaf board free));
     }
 
 -- ---- a free leaf replaced
 
-module _ (w : List ℕ) (n : ℕ) (target : Rect) (k : 0 < n) (found : Found) (ends : Ends w n 0 target found) where
-  outcome_of : (node t : SliceNode) → Holds w n (some t) → Outcome target node 0 t found
-  outcome_of node t h = subst (Outcome target node 0 t) (sym (ends.ends t (holds_reads w n t h))) (outcome target node t 0)
+some_at : (b : Bool) (k : ℕ) → cond b (Some k) None ≡ None → b ≡ false
+some_at true k e = absurd (none-some k (sym e))
+some_at false k e = refl
+
+module _ (w : List ℕ) (n : ℕ) (target : Rect) (k : 0 < n) (found : Language.Option ℕ) (ends : Finds (take (8 * n) w) target found) where
+  place_of : (t : SliceNode) → Holds w n (some t) → found ≡ position (is_free_leaf target) (preorder t)
+  place_of t h = ends.finds t (h.reads ∙ guide_words_some t)
+
+  spliced_at : (i : ℕ) (node t : SliceNode) → found ≡ Some i → Holds w n (some t) → Spliced target i node t
+  spliced_at i node t e h =
+      let first : ℕ = first_of target t in
+      let p = cond_some (ltb first (size t)) first i (sym (place_of t h) ∙ e) in
+      subst (λ (m : ℕ). Spliced target m node t) p.1 ((outcome target node t).found (ltb-true first (size t) p.0))
+
+  replaced_none : (node t : SliceNode) → found ≡ None → Holds w n (some t) → replace_free_leaf t target node ≡ none
+  replaced_none node t e h =
+      let first : ℕ = first_of target t in
+      (outcome target node t).none_found (ltb-false first (size t) (some_at (ltb first (size t)) first (sym (place_of t h) ∙ e)))
 
   -- the tree's words, by the leaf's place among them
-  leaf_lengths : (i : ℕ) (node t : SliceNode) → Holds w n (some t) → (s : Spliced target 0 i node t) → 8 * n ≡ length s.front + (8 + length s.back)
+  leaf_lengths : (i : ℕ) (node t : SliceNode) → Holds w n (some t) → (s : Spliced target i node t) → 8 * n ≡ length s.front + (8 + length s.back)
   leaf_lengths i node t h s =
       omega (arith, h.counts, size_some t, nodes_size (preorder t), ap length s.was, length-append s.front (node_words (leaf target free) ++ s.back), length-append (node_words (leaf target free)) s.back, node_size_lem (leaf target free))
 
-  pub found_below : (i : ℕ) → found ≡ Found.At i → Guided w n → i < n
+  pub found_below : (i : ℕ) → found ≡ Some i → Guided w n → i < n
   found_below i e g = go g.guide g.holds
     where
       go : (o : Option SliceNode) → Holds w n o → i < n
       go none h = empty_none w n k h
       go (some t) h =
-          let s = subst (Outcome target (leaf target free) 0 t) e (outcome_of (leaf target free) t h) in
+          let s = spliced_at i (leaf target free) t e h in
           omega (arith, s.place, leaf_lengths i (leaf target free) t h s)
 
-  pub replaces_past : (j : ℕ) → found ≡ Found.Past j → (s : Subtree) → Replaces w w n 0 target s
-  replaces_past j e s = record { replaced = λ node f. record { became = go node } }
+  pub replaces_none : found ≡ None → (s : Subtree) → Replaces w w n 0 target s
+  replaces_none e s = record { replaced = λ node f. record { became = go node } }
     where
       go : (node : SliceNode) (o : Option SliceNode) → Holds w n o → Became w w 0 (o >>= λ tree. replace_free_leaf tree target node)
       go node none h = empty_none w n k h
-      go node (some t) h = rw (subst (Outcome target node 0 t) e (outcome_of node t h)) (became_none w)
+      go node (some t) h = rw (replaced_none node t e h) (became_none w)
 
-  pub replaces_at : (i r : ℕ) (w' : List ℕ) (s : Subtree) → found ≡ Found.At i → w' ≡ spliced w n i (subtree_words s) ++ drop (8 * r) w
+  pub replaces_at : (i r : ℕ) (w' : List ℕ) (s : Subtree) → found ≡ Some i → w' ≡ spliced w n i (subtree_words s) ++ drop (8 * r) w
       → 8 * r + 8 ≡ 8 * n + length (subtree_words s) → Replaces w w' n r target s
   replaces_at i r w' s e words size_is = record { replaced = λ node f. record { became = go node f } }
     where
-      made : (node t : SliceNode) → tree_words node ≡ subtree_words s → Holds w n (some t) → (p : Spliced target 0 i node t) → Became w w' r (some p.after)
+      made : (node t : SliceNode) → tree_words node ≡ subtree_words s → Holds w n (some t) → (p : Spliced target i node t) → Became w w' r (some p.after)
       made node t f h p =
           let all : tree_words p.after ≡ spliced w n i (subtree_words s) =
           p.is ∙ ap (λ (l : List ℕ). p.front ++ (l ++ p.back)) f
-          ∙ sym (spliced_is w (subtree_words s) n i p.front (node_words (leaf target free)) p.back (holds_fits w n (some t) h) (h.reads ∙ guide_words_some t ∙ p.was) (omega (arith, p.place)) (node_size_lem (leaf target free)))
+          ∙ sym (spliced_is w (subtree_words s) n i p.front (node_words (leaf target free)) p.back (holds_fits w n (some t) h) (h.reads ∙ guide_words_some t ∙ p.was) p.place (node_size_lem (leaf target free)))
           in
           let long : length (tree_words p.after) ≡ length p.front + (length (tree_words node) + length p.back) =
           ap length p.is ∙ length-append p.front (tree_words node ++ p.back) ∙ ap (λ (m : ℕ). length p.front + m) (length-append (tree_words node) p.back)
@@ -136,7 +144,7 @@ module _ (w : List ℕ) (n : ℕ) (target : Rect) (k : 0 < n) (found : Found) (e
       go : (node : SliceNode) → tree_words node ≡ subtree_words s → (o : Option SliceNode) → Holds w n o → Became w w' r (o >>= λ tree. replace_free_leaf tree target node)
       go node f none h = empty_none w n k h
       go node f (some t) h =
-          let p = subst (Outcome target node 0 t) e (outcome_of node t h) in
+          let p = spliced_at i node t e h in
           rw p.made (made node t f h p)
 
 -- ---- the step of an insertion

@@ -1,15 +1,15 @@
 -- A free leaf replaced in the words of a tree.
-use Rattle.std.specs.Prelude.{if◌then◌else◌}
+use Rattle.std.specs.Prelude.{cond, not}
+use Rattle.std.specs.List.{prefix_len, position_or_len}
 use mathlib.Core.Path.{◌≡◌, refl, sym, ap, ap₂, ◌∙◌}
 use mathlib.Core.Bool.{Bool, true, false}
-use mathlib.Core.List.{List, [], ◌++◌, append_assoc, append-nil}
+use mathlib.Core.List.{List, [], ◌∷◌, ◌++◌, append_assoc, append-nil}
 use mathlib.Core.Option.{none, some}
-use Prim.Native.Nat.{ℕ, ◌+◌, ◌*◌, ◌≤◌}
+use Prim.Native.Nat.{ℕ, suc, ◌+◌, ◌*◌, ◌≤◌, ◌<◌}
 use native.Mathlib.Omega.{arith}
-use lib.Dec.{T}
+use borrow.Author.Tests.{ltb-true, ltb-false}
+use lib.Dec.{T, ltb}
 use lib.ListN.{length, length-append}
-use Rattle.lists.specs.Parts.{part}
-use Rattle.lists.proofs.Parts.{part_left, part_right}
 use Rattle.model.specs.declared.Rect.{Rect}
 use Rattle.model.specs.Types.{same_rect}
 use Rattle.model.specs.Guide.{GuideCut, SliceNode, cut, leaf, free, cut_piece, replace_free_leaf}
@@ -18,58 +18,56 @@ use Rattle.trust.proofs.Guide.{same_rect_eq}
 use Rattle.trust.proofs.RoundTrip.{node_size_lem, nodes_size}
 use Rattle.subtree.specs.Words.{tree_words}
 use Rattle.subtree.proofs.Trees.{tree_words_cut, tree_words_leaf}
-use Rattle.free_leaf.specs.declared.Found.{Found}
-use Rattle.free_leaf.specs.Leaves.{then_past, leaf_from, size, Reads}
+use Rattle.free_leaf.specs.Leaves.{is_free_leaf, size}
 use Rattle.free_leaf.proofs.Sizes.{size_cut, size_leaf}
-use Rattle.free_leaf.proofs.Searches.{PastIs, past_size}
 
--- ---- a tree's words are read from its root's number on
+-- ---- the first place in two lists
 
-pub reads_part : (w : List ℕ) (n at : ℕ) (t : SliceNode) → at + size t ≤ n → part w (8 * at) (8 * size t) ≡ tree_words t → Reads w n at t
-reads_part w n at (cut c a b) h e =
-    let whole : 8 * size (cut c a b) ≡ 8 + (8 * size a + 8 * size b) = omega (arith, size_cut c a b) in
-    let both : part w (8 * at) (8 + (8 * size a + 8 * size b)) ≡ node_words (cut c a b) ++ (tree_words a ++ tree_words b) =
-    ap (part w (8 * at)) (sym whole) ∙ e ∙ tree_words_cut c a b
-    in
-    let here = node_size_lem (cut c a b) in
-    let children = part_right w (8 * at) 8 (8 * size a + 8 * size b) (node_words (cut c a b)) (tree_words a ++ tree_words b) both here in
-    let first_at : 8 * (at + 1) ≡ 8 * at + 8 = omega arith in
-    let second_at : 8 * (at + 1 + size a) ≡ 8 * at + 8 + 8 * size a = omega arith in (
-      omega (arith, size_cut c a b),
-      part_left w (8 * at) 8 (8 * size a + 8 * size b) (node_words (cut c a b)) (tree_words a ++ tree_words b) both here,
-      reads_part w n (at + 1) a (omega (arith, size_cut c a b))
-          (ap (λ (m : ℕ). part w m (8 * size a)) first_at ∙ part_left w (8 * at + 8) (8 * size a) (8 * size b) (tree_words a) (tree_words b) children (nodes_size (preorder a))),
-      reads_part w n (at + 1 + size a) b (omega (arith, size_cut c a b))
-          (ap (λ (m : ℕ). part w m (8 * size b)) second_at ∙ part_right w (8 * at + 8) (8 * size a) (8 * size b) (tree_words a) (tree_words b) children (nodes_size (preorder a))),
-    )
-reads_part w n at (leaf r k) h e =
-    let one : 8 * size (leaf r k) ≡ 8 = omega (arith, size_leaf r k) in
-    (omega (arith, size_leaf r k), ap (part w (8 * at)) (sym one) ∙ e ∙ tree_words_leaf r k)
+module _ {X : Type 0} (q : X → Bool) where
+  prefix_first : (xs ys : List X) → prefix_len q xs < length xs → prefix_len q (xs ++ ys) ≡ prefix_len q xs
+  prefix_first [] ys h = absurd (omega arith)
+  prefix_first (x ∷ xs) ys h =
+      elim (q x) as (λ (b : Bool). cond b (1 + prefix_len q xs) 0 < suc (length xs) → cond b (1 + prefix_len q (xs ++ ys)) 0 ≡ cond b (1 + prefix_len q xs) 0) [
+        | true ↦ λ k. ap (λ (n : ℕ). 1 + n) (prefix_first xs ys (omega arith))
+        | false ↦ λ k. refl
+      ] h
+
+  prefix_second : (xs ys : List X) → length xs ≤ prefix_len q xs → prefix_len q (xs ++ ys) ≡ length xs + prefix_len q ys
+  prefix_second [] ys h = omega arith
+  prefix_second (x ∷ xs) ys h =
+      elim (q x) as (λ (b : Bool). suc (length xs) ≤ cond b (1 + prefix_len q xs) 0 → cond b (1 + prefix_len q (xs ++ ys)) 0 ≡ suc (length xs) + prefix_len q ys) [
+        | true ↦ λ k. let rest = prefix_second xs ys (omega arith) in omega arith
+        | false ↦ λ k. absurd (omega arith)
+      ] h
 
 -- ---- the leaf found is the one that replace_free_leaf replaces
 
-pub record Spliced (target : Rect) (at i : ℕ) (sub tree : SliceNode) : Type 0 where
+pub record Spliced (target : Rect) (i : ℕ) (sub tree : SliceNode) : Type 0 where
   pub after : SliceNode
   pub made : replace_free_leaf tree target sub ≡ some after
   pub front : List ℕ
   pub back : List ℕ
-  pub place : 8 * at + length front ≡ 8 * i
+  pub place : length front ≡ 8 * i
   pub was : tree_words tree ≡ front ++ (node_words (leaf target free) ++ back)
   pub is : tree_words after ≡ front ++ (tree_words sub ++ back)
 
-module _ (target : Rect) (sub : SliceNode) where
-  abbrev pub Outcome : ℕ → SliceNode → Found → Type 0
-  Outcome at tree (Found.At i) = Spliced target at i sub tree
-  Outcome at tree (Found.Past j) = replace_free_leaf tree target sub ≡ none
+-- the first free leaf's number, or the size where there is none
+abbrev pub first_of : Rect → SliceNode → ℕ
+first_of target tree = position_or_len (is_free_leaf target) (preorder tree)
 
-  module _ (c : GuideCut) (a b : SliceNode) (at : ℕ) where
+module _ (target : Rect) (sub : SliceNode) where
+  pub record Outcome (tree : SliceNode) (k : ℕ) : Type 0 where
+    pub found : k < size tree → Spliced target k sub tree
+    pub none_found : size tree ≤ k → replace_free_leaf tree target sub ≡ none
+
+  module _ (c : GuideCut) (a b : SliceNode) where
     node_words_cut : (a' b' : SliceNode) → node_words (cut c a' b') ≡ node_words (cut c a b)
     unfolding node_words
     node_words_cut a' b' = refl
 
-    in_first_lem : (i : ℕ) → Spliced target (at + 1) i sub a → Spliced target at i sub (cut c a b)
+    in_first_lem : (i j : ℕ) → j ≡ 1 + i → Spliced target i sub a → Spliced target j sub (cut c a b)
     unfolding replace_free_leaf
-    in_first_lem i s =
+    in_first_lem i j e s =
         record {
           after = cut c s.after b;
           made = rw s.made;
@@ -80,9 +78,9 @@ module _ (target : Rect) (sub : SliceNode) where
           is = tree_words_cut c s.after b ∙ ap₂ (λ (l m : List ℕ). l ++ (m ++ tree_words b)) (node_words_cut s.after b) s.is ∙ simp append_assoc;
         }
 
-    in_second_lem : (j i : ℕ) → j ≡ at + 1 + size a → replace_free_leaf a target sub ≡ none → Spliced target j i sub b → Spliced target at i sub (cut c a b)
+    in_second_lem : (i j : ℕ) → j ≡ 1 + (size a + i) → replace_free_leaf a target sub ≡ none → Spliced target i sub b → Spliced target j sub (cut c a b)
     unfolding replace_free_leaf
-    in_second_lem j i e n s =
+    in_second_lem i j e n s =
         record {
           after = cut c a s.after;
           made = rw (n, s.made);
@@ -97,31 +95,53 @@ module _ (target : Rect) (sub : SliceNode) where
     unfolding replace_free_leaf
     in_neither e f = rw (e, f)
 
-    in_cut : (o : Found) → Outcome (at + 1) a o → PastIs (at + 1 + size a) o → ((next : ℕ) → Outcome next b (leaf_from target next b))
-        → Outcome at (cut c a b) (then_past o (λ next. leaf_from target next b))
-    in_cut (Found.At i) s p f = in_first_lem i s
-    in_cut (Found.Past j) e p f = go (leaf_from target j b) (f j)
+    behind : first_of target (cut c a b) ≡ 1 + prefix_len (λ n. not (is_free_leaf target n)) (preorder a ++ preorder b)
+    unfolding preorder
+    behind = refl
+
+    in_cut : Outcome a (first_of target a) → Outcome b (first_of target b) → Outcome (cut c a b) (first_of target (cut c a b))
+    in_cut o p = go (ltb (first_of target a) (size a)) refl
       where
-        go : (o : Found) → Outcome j b o → Outcome at (cut c a b) o
-        go (Found.At i) s = in_second_lem j i p e s
-        go (Found.Past k) g = in_neither e g
+        go : (t : Bool) → ltb (first_of target a) (size a) ≡ t → Outcome (cut c a b) (first_of target (cut c a b))
+        go true e =
+            let lt : first_of target a < size a = ltb-true (first_of target a) (size a) e in
+            let is : first_of target (cut c a b) ≡ 1 + first_of target a =
+            behind ∙ ap (λ (n : ℕ). 1 + n) (prefix_first (λ n. not (is_free_leaf target n)) (preorder a) (preorder b) lt)
+            in
+            record {
+              found = λ h. in_first_lem (first_of target a) (first_of target (cut c a b)) is (o.found lt);
+              none_found = λ h. absurd (omega (arith, size_cut c a b));
+            }
+        go false e =
+            let le : size a ≤ first_of target a = ltb-false (first_of target a) (size a) e in
+            let is : first_of target (cut c a b) ≡ 1 + (size a + first_of target b) =
+            behind ∙ ap (λ (n : ℕ). 1 + n) (prefix_second (λ n. not (is_free_leaf target n)) (preorder a) (preorder b) le)
+            in
+            record {
+              found = λ h. in_second_lem (first_of target b) (first_of target (cut c a b)) is (o.none_found le) (p.found (omega (arith, size_cut c a b)));
+              none_found = λ h. in_neither (o.none_found le) (p.none_found (omega (arith, size_cut c a b)));
+            }
 
-  in_leaf : (r : Rect) (at : ℕ) (b : Bool) → (T b → r ≡ target) → same_rect r target ≡ b → Outcome at (leaf r free) (if b then Found.At at else Found.Past (at + 1))
+  in_leaf : (r : Rect) (t : Bool) → (T t → r ≡ target) → same_rect r target ≡ t → Outcome (leaf r free) (cond (not t) 1 0)
   unfolding replace_free_leaf
-  in_leaf r at true same e =
+  in_leaf r true same e =
       record {
-        after = sub;
-        made = rw e;
-        front = [];
-        back = [];
-        place = omega arith;
-        was = tree_words_leaf r free ∙ ap (λ (x : Rect). node_words (leaf x free)) (same tt) ∙ sym (append-nil (node_words (leaf target free)));
-        is = sym (append-nil (tree_words sub));
+        found = λ h. record {
+          after = sub;
+          made = rw e;
+          front = [];
+          back = [];
+          place = omega arith;
+          was = tree_words_leaf r free ∙ ap (λ (x : Rect). node_words (leaf x free)) (same tt) ∙ sym (append-nil (node_words (leaf target free)));
+          is = sym (append-nil (tree_words sub));
+        };
+        none_found = λ h. absurd (omega (arith, size_leaf r free));
       }
-  in_leaf r at false same e = rw e
+  in_leaf r false same e = record { found = λ h. absurd (omega (arith, size_leaf r free)); none_found = λ h. rw e }
 
-  pub outcome : (tree : SliceNode) (at : ℕ) → Outcome at tree (leaf_from target at tree)
-  unfolding leaf_from replace_free_leaf
-  outcome (cut c a b) at = in_cut c a b at (leaf_from target (at + 1) a) (outcome a (at + 1)) (past_size target (at + 1) a) (λ next. outcome b next)
-  outcome (leaf r free) at = in_leaf r at (same_rect r target) (same_rect_eq r target) refl
-  outcome (leaf r (cut_piece key)) at = refl
+  pub outcome : (tree : SliceNode) → Outcome tree (first_of target tree)
+  unfolding preorder replace_free_leaf
+  outcome (cut c a b) = in_cut c a b (outcome a) (outcome b)
+  outcome (leaf r free) = in_leaf r (same_rect r target) (same_rect_eq r target) refl
+  outcome (leaf r (cut_piece key)) =
+      record { found = λ h. absurd (omega (arith, size_leaf r (cut_piece key))); none_found = λ h. refl }

@@ -2,25 +2,21 @@
 // its second child, in eight words each as the plan has them. A guide of no nodes is none.
 #![tactic(auto)]
 
-ghost use Rattle.std.specs.Prelude.{◌≡◌, ◌+◌, ◌*◌, ◌≤◌, ◌<◌, length, take};
+ghost use Rattle.std.specs.Prelude.{◌≡◌, ◌+◌, ◌*◌, ◌≤◌, ◌<◌, length};
 ghost use Rattle.std.proofs.Math.Option.{some};
-ghost use Rattle.lists.specs.Parts.{patch};
 ghost use Rattle.model.specs.Guide.{leaf, free};
 ghost use Rattle.subtree.specs.Words.{subtree_words, InCorner};
 ghost use Rattle.guide.specs.Words.{Guided, Became, Becomes, Replaces, next_guide};
 
-use free_leaf::Found;
 use model::{CutInstance, Direction, Rect};
-use subtree::Subtree;
-
-// ---- a guide along its sheet's making
+use subtree::{Node, Subtree};
 
 // GuillotineSheet::new: one free leaf. All answers below are the guide's node count.
 pub fn new_guide(words: &mut [u32], board: Rect) -> usize
     requires { 8 ≤ length words.old }
     ensures { Became words.old words.new result (some (leaf board free)) }
 {
-    splice::put_node(words, 0, subtree::free_node(board));
+    splice::put_node(words, 0, Node::Free(board));
     1
 }
 
@@ -29,10 +25,9 @@ fn replace_free_leaf(words: &mut [u32], count: usize, target: Rect, subtree: Sub
     requires { (0 < count) × (8 * count + length (subtree_words subtree) ≤ length words.old + 8) × Guided words.old count }
     ensures { Replaces words.old words.new count result target subtree }
 {
-    let found = free_leaf::find_free_leaf(words, count, 0, target);
-    match found {
-        Found::At(at) => splice::splice(words, count, at, subtree),
-        Found::Past(past) => 0,
+    match free_leaf::find_free_leaf(&words[..8 * count], target) {
+        Some(at) => splice::splice(words, count, at, subtree),
+        None => 0,
     }
 }
 
@@ -50,10 +45,7 @@ pub fn next_guide(
     requires { (8 * count + 32 ≤ length words.old) × InCorner free_rect placed × Guided words.old count }
     ensures { Becomes words.old words.new count result (next_guide merged direction kerf free_rect placed cut) }
 {
-    if merged {
-        return 0;
-    }
-    if count == 0 {
+    if merged || count == 0 {
         return 0;
     }
     replace_free_leaf(
@@ -62,14 +54,4 @@ pub fn next_guide(
         free_rect,
         subtree::guillotine_insert_subtree(free_rect, placed, cut, direction, kerf),
     )
-}
-
-// ---- the guide in the plan
-
-// The guide's words are those of the plan's nodes.
-pub fn put_nodes(plan: &mut [u32], at: usize, words: &[u32], count: usize)
-    requires { (at + 8 * count ≤ length plan.old) × (8 * count ≤ length words.now) }
-    ensures { plan.new ≡ patch plan.old at (take (8 * count) words.now) }
-{
-    copying::put_words(plan, at, words, 8 * count);
 }

@@ -1,4 +1,5 @@
 -- An insertion into the words is the definition's insertion into every sheet that they show; and what a caller needs to go on.
+use Rattle.std.specs.Prelude.{None, Some}
 use Prim.Native.Nat.{ℕ, ◌≤◌, ◌<◌}
 use native.Mathlib.Omega.{arith}
 use mathlib.Core.Path.{◌≡◌, refl, sym, ap, ◌∙◌}
@@ -26,8 +27,6 @@ use Rattle.choice.specs.declared.Score.{Score}
 use Rattle.split.specs.Bounds.{Small, Inside}
 use Rattle.split.proofs.Remainders.{split_small, swap_small}
 use Rattle.merging.proofs.Rounds.{rounds_small}
-use Rattle.best_place.specs.declared.BestFit.TheVariants as best
-use Rattle.guillotine.specs.declared.Inserted.TheVariants as inserted
 use Rattle.rect_words.specs.SheetWords.{rects_in, with_rects, Shows, most_rects, block_words}
 use Rattle.best_place.specs.Places.{place_at, FindsBest}
 use Rattle.guillotine.specs.Insertions.{Ready, Insertable, At, split_by, Replaces, InsertsInto, Inserts}
@@ -47,13 +46,13 @@ shown w pattern =
 
 module _ (kerf : ℕ) (pattern : PatternDirection) (cut : CutInstance) (h : BaselineGuillotineHeuristic) (w : List ℕ) where
   -- no place: the words stay
-  pub stays : FindsBest w cut pattern h best.Nothing → Inserts kerf pattern cut h w w inserted.Nothing
+  pub stays : FindsBest w cut pattern h None → Inserts kerf pattern cut h w w None
   unfolding try_insert
   stays f = λ s v.
       let e = f.place s v in
       record { place = e; merged = rw (← e); words = rw (← e) }
 
-  module _ (i : ℕ) (r : Rect) (q : FitResult) (score : Score) (f : FindsBest w cut pattern h (best.At i r q score)) where
+  module _ (i : ℕ) (r : Rect) (q : FitResult) (score : Score) (f : FindsBest w cut pattern h (Some (record { index = i; free_rect = r; fit = q; score = score }))) where
     good : Good (shown w pattern) (record { cut = cut; heuristic = h }) (place_at i r q)
     unfolding shown
     good = best_place_good (shown w pattern) (record { cut = cut; heuristic = h }) (place_at i r q) (sym (f.place (shown w pattern) (record { rects = refl; grain = refl })))
@@ -71,7 +70,7 @@ module _ (kerf : ℕ) (pattern : PatternDirection) (cut : CutInstance) (h : Base
     split_same s v = rw v.rects
 
     pub inserts : (v : List ℕ) (m : Bool) → Replaces kerf (split_by kerf i r q.rect (split_direction r q.rect h.split) (rects_in w)) w v m
-        → Inserts kerf pattern cut h w v (inserted.At i r q m)
+        → Inserts kerf pattern cut h w v (Some (record { index = i; free_rect = r; fit = q; merged = m }))
     unfolding try_insert insert_at
     inserts v m k = λ s t.
         let b = f.place s t in
@@ -123,12 +122,12 @@ module _ (kerf : ℕ) (s : GuillotineSheet) (i : Insertion) where
         apart = merge_rounds_done kerf (length (old ++ new)) (old ++ new) (omega arith);
       }
 
-  -- the answer `Nothing`: the definition inserts nothing, and the words are as they were
-  pub inserts_nothing : (w v : List ℕ) → InsertsInto kerf s i w v inserted.Nothing → (try_insert kerf s i ≡ none) × (v ≡ w)
+  -- the answer `None`: the definition inserts nothing, and the words are as they were
+  pub inserts_nothing : (w v : List ℕ) → InsertsInto kerf s i w v None → (try_insert kerf s i ≡ none) × (v ≡ w)
   unfolding try_insert
   inserts_nothing w v t = (rw (← t.place), t.words ∙ rw (← t.place))
 
--- the answer `At`: the sheet that the definition makes, which the words then show, ready for the next
+-- the answer `Some`: the sheet that the definition makes, which the words then show, ready for the next
 pub record Placed (kerf : ℕ) (s : GuillotineSheet) (i : Insertion) (p : Place) (m : Bool) (w v : List ℕ) : Type 0 where
   pub is : try_insert kerf s i ≡ some (insert_at kerf s i p)
   pub best : best_place s i ≡ some p
@@ -138,7 +137,7 @@ pub record Placed (kerf : ℕ) (s : GuillotineSheet) (i : Insertion) (p : Place)
   pub ready : Ready kerf (rects_in v)
 
 pub inserts_at : (kerf : ℕ) (s : GuillotineSheet) (i : Insertion) (w v : List ℕ) (k : ℕ) (r : Rect) (f : FitResult) (m : Bool)
-    → InsertsInto kerf s i w v (inserted.At k r f m) → Ready kerf s.free_rects → Placed kerf s i (place_at k r f) m w v
+    → InsertsInto kerf s i w v (Some (record { index = k; free_rect = r; fit = f; merged = m })) → Ready kerf s.free_rects → Placed kerf s i (place_at k r f) m w v
 unfolding try_insert insert_at
 inserts_at kerf s i w v k r f m t ready =
     let p = place_at k r f in

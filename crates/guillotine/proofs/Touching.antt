@@ -1,4 +1,6 @@
 -- Whether the remainders of a split merge with what is there: tested on the words, and equal to what `merge_free_rects` would say.
+use Rattle.std.specs.Prelude.{None, Some, option_to_list}
+use Rattle.std.specs.Prelude as Language
 use Prim.Native.Nat.{ℕ, ◌+◌, ◌≤◌, ◌<◌}
 use native.Mathlib.Numerals.{add-one}
 use native.Mathlib.Omega.{arith}
@@ -6,19 +8,18 @@ use mathlib.Core.Path.{◌≡◌, refl, sym, ◌∙◌}
 use mathlib.Core.Bool.{Bool, true, false, ◌||◌, true≢false}
 use mathlib.Core.List.{List, [], ◌∷◌, ◌++◌}
 use mathlib.Core.Option.{Option, none, some, none-ne-some}
+use lib.Seq.{take_all}
 use lib.ListN.{length, get_or, take, drop}
 use Rattle.lists.specs.Base.{is_some, any, swap_remove}
 use Rattle.lists.proofs.Perm.{Perm, perm_sym, swap_remove_perm, All, Pairs, all_left, all_right, all_append}
 use Rattle.lists.proofs.Arrays.{drop_past, drop_within, remove_at_split}
 use Rattle.lists.proofs.Booleans.{or-false}
-use Rattle.lists.proofs.Every.{any_append, all_flip, any_perm}
+use Rattle.split.specs.Bounds.{Small}
+use Rattle.lists.proofs.Every.{all_get, any_append, all_flip, any_perm}
 use Rattle.trust.proofs.Truth.{or_false_split}
 use Rattle.model.specs.declared.Rect.{Rect}
 use Rattle.model.specs.Types.{no_rect}
 use Rattle.model.specs.Merge.{Pair, merge_adjacent_rects, first_pair, merges_any}
-use Rattle.split.specs.declared.Remainder.{Remainder}
-use Rattle.split.specs.declared.Remainder.TheVariants.{Nothing, One}
-use Rattle.split.specs.Remainders.{remainder_of}
 use Rattle.merging.proofs.Apart.{Apart, first_apart, apart_first, swap_apart}
 use Rattle.rect_words.specs.SheetWords.{rect_at, rects_in}
 use Rattle.guillotine.specs.Insertions.{touches, touches_any, others}
@@ -46,6 +47,16 @@ module _ (w : List ℕ) (kerf : ℕ) (r : Rect) (to : ℕ) (under : to ≤ get_o
   touch_end i h = rw (drop_past to i (rects_in w) h)
 
 -- ---- one remainder, two, or none
+
+pub touches_no : (kerf : ℕ) (old : List Rect) → touches_any kerf [] old ≡ false
+unfolding touches_any any
+touches_no kerf old = refl
+
+pub whole_range : (w : List ℕ) → take (get_or w 0 0) (rects_in w) ≡ rects_in w
+whole_range w = take_all (get_or w 0 0) (rects_in w) (omega (arith, length_rects w))
+
+pub small_at : (w : List ℕ) (i : ℕ) → i < get_or w 0 0 → All Small (rects_in w) → Small (rect_at w i)
+small_at w i h a = rw (get_rects w i h) at (all_get Small (rects_in w) i no_rect a (rw (length_rects w) h))
 
 pub touches_one : (kerf : ℕ) (r : Rect) (i : ℕ) (l : List Rect) → touches_any kerf (r ∷ []) (others i l) ≡ (touches kerf r (take i l) || touches kerf r (drop (i + 1) l))
 unfolding touches_any any touches
@@ -169,16 +180,16 @@ touches_perm kerf (r ∷ new) e = rw (any_perm (λ q. is_some (merge_adjacent_re
 others_perm : (i : ℕ) (l : List Rect) → i < length l → Perm (others i l) (swap_remove no_rect i l)
 others_perm i l h = rw (add-one i, ← remove_at_split i l) (perm_sym (swap_remove_perm no_rect l i h))
 
-remainder_apart : (kerf : ℕ) (r : Remainder) → Pairs (Apart kerf) (remainder_of r)
-remainder_apart kerf Nothing = tt
-remainder_apart kerf (One r) = (tt, tt)
+remainder_apart : (kerf : ℕ) (r : Language.Option Rect) → Pairs (Apart kerf) (option_to_list r)
+remainder_apart kerf None = tt
+remainder_apart kerf (Some r) = (tt, tt)
 
-pub touches_merges : (kerf : ℕ) (l : List Rect) (i : ℕ) (b r : Remainder) → i < length l → first_pair kerf l ≡ none
-    → (touches_any kerf (remainder_of b) (others i l) || (touches_any kerf (remainder_of r) (others i l) || touches_any kerf (remainder_of r) (remainder_of b)))
-    ≡ merges_any kerf (swap_remove no_rect i l ++ (remainder_of b ++ remainder_of r))
+pub touches_merges : (kerf : ℕ) (l : List Rect) (i : ℕ) (b r : Language.Option Rect) → i < length l → first_pair kerf l ≡ none
+    → (touches_any kerf (option_to_list b) (others i l) || (touches_any kerf (option_to_list r) (others i l) || touches_any kerf (option_to_list r) (option_to_list b)))
+    ≡ merges_any kerf (swap_remove no_rect i l ++ (option_to_list b ++ option_to_list r))
 unfolding tested
 touches_merges kerf l i b r h e =
     let p = others_perm i l h in
-    rw (touches_perm kerf (remainder_of b) p, touches_perm kerf (remainder_of r) p)
-    (tested_merges kerf (swap_remove no_rect i l) (remainder_of b) (remainder_of r) (first_apart kerf (swap_remove no_rect i l) (swap_apart kerf l i h e))
+    rw (touches_perm kerf (option_to_list b) p, touches_perm kerf (option_to_list r) p)
+    (tested_merges kerf (swap_remove no_rect i l) (option_to_list b) (option_to_list r) (first_apart kerf (swap_remove no_rect i l) (swap_apart kerf l i h e))
     (remainder_apart kerf b) (remainder_apart kerf r))

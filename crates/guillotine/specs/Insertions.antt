@@ -1,6 +1,6 @@
 -- The insertion of a cut into a sheet whose free rectangles are in lent words.
-use Rattle.std.specs.Prelude.{ℕ, ◌+◌, ◌≤◌, ◌<◌, ◌≡◌, Bool, List, ◌++◌, length, get_or, take, drop}
-use Rattle.std.proofs.Math.Option.{Option, none, some}
+use Rattle.std.specs.Prelude.{ℕ, ◌+◌, ◌≤◌, ◌<◌, ◌≡◌, Bool, List, ◌++◌, length, get_or, take, drop, Option, Some, None}
+use Rattle.std.proofs.Math.Option as Defined
 use Rattle.lists.specs.Base.{◌>>=◌, is_some, any, swap_remove}
 use Rattle.lists.proofs.Perm.{All}
 use Rattle.model.specs.declared.PatternDirection.{PatternDirection}
@@ -15,7 +15,6 @@ use Rattle.model.specs.Merge.{merge_adjacent_rects, first_pair, merge_free_rects
 use Rattle.model.specs.Sheet.{GuillotineSheet, Insertion, Place, best_place, split_rects, try_insert}
 use Rattle.split.specs.Bounds.{Small}
 use Rattle.guillotine.specs.declared.Inserted.{Inserted}
-use Rattle.guillotine.specs.declared.Inserted.TheVariants as inserted
 use Rattle.rect_words.specs.SheetWords.{rects_in, with_rects, most_rects, block_words, Shows}
 use Rattle.best_place.specs.Places.{place_at}
 
@@ -25,7 +24,7 @@ use Rattle.best_place.specs.Places.{place_at}
 pub record Ready (kerf : ℕ) (rects : List Rect) : Type 0 where
   pub thin : kerf ≤ most_side
   pub small : All Small rects
-  pub apart : first_pair kerf rects ≡ none
+  pub apart : first_pair kerf rects ≡ Defined.none
 
 -- of the words: a whole block, with room for one rectangle more
 pub record Insertable (kerf : ℕ) (words : List ℕ) : Type 0 where
@@ -62,21 +61,21 @@ others index rects = take index rects ++ drop (index + 1) rects
 
 -- ---- the answer, and the words afterwards
 
-abbrev pub place_in : Inserted → Option Place
-place_in inserted.Nothing = none
-place_in (inserted.At i r f m) = some (place_at i r f)
+abbrev pub place_in : Option Inserted → Defined.Option Place
+place_in None = Defined.none
+place_in (Some t) = Defined.some (place_at t.index t.free_rect t.fit)
 
-abbrev pub merged_in : Inserted → Option Bool
-merged_in inserted.Nothing = none
-merged_in (inserted.At i r f m) = some m
+abbrev pub merged_in : Option Inserted → Defined.Option Bool
+merged_in None = Defined.none
+merged_in (Some t) = Defined.some t.merged
 
 -- one insertion into one sheet
-pub record InsertsInto (kerf : ℕ) (s : GuillotineSheet) (i : Insertion) (before after : List ℕ) (r : Inserted) : Type 0 where
+pub record InsertsInto (kerf : ℕ) (s : GuillotineSheet) (i : Insertion) (before after : List ℕ) (r : Option Inserted) : Type 0 where
   pub place : place_in r ≡ best_place s i
-  pub merged : merged_in r ≡ (best_place s i >>= λ p. some (merges_any kerf (split_rects kerf s i p)))
-  pub words : after ≡ (elim (try_insert kerf s i) [ none ↦ before | some t ↦ with_rects t.free_rects before ])
+  pub merged : merged_in r ≡ (best_place s i >>= λ p. Defined.some (merges_any kerf (split_rects kerf s i p)))
+  pub words : after ≡ (elim (try_insert kerf s i) [ Defined.none ↦ before | Defined.some t ↦ with_rects t.free_rects before ])
 
 -- the same into any sheet that the words show
-abbrev pub Inserts : ℕ → PatternDirection → CutInstance → BaselineGuillotineHeuristic → (before after : List ℕ) → Inserted → Type 0
+abbrev pub Inserts : ℕ → PatternDirection → CutInstance → BaselineGuillotineHeuristic → (before after : List ℕ) → Option Inserted → Type 0
 Inserts kerf pattern cut h before after r =
     (s : GuillotineSheet) → Shows before pattern s → InsertsInto kerf s (record { cut = cut; heuristic = h }) before after r

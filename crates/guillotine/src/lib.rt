@@ -1,27 +1,25 @@
 // The insertion of a cut into a sheet at its best place (`GuillotineSheet::try_insert`).
 #![tactic(auto)]
 
-ghost use Rattle.std.specs.Prelude.{◌≡◌, ◌∷◌, [], ◌++◌, ◌≤◌, ◌<◌, get_or, take, drop};
+ghost use Rattle.std.specs.Prelude.{◌≡◌, ◌∷◌, [], ◌++◌, ◌≤◌, ◌<◌, get_or, take, drop, option_to_list};
 ghost use Rattle.lists.specs.Base.{is_some, swap_remove};
 ghost use Rattle.lists.proofs.Perm.{All};
 ghost use Rattle.model.specs.Types.{no_rect};
 ghost use Rattle.model.specs.Refusal.{most_side};
 ghost use Rattle.model.specs.Merge.{merge_adjacent_rects, merges_any};
-ghost use Rattle.split.specs.Remainders.{remainder_of};
 ghost use Rattle.split.specs.Bounds.{Small, Inside};
 ghost use Rattle.rect_words.specs.SheetWords.{rects_in, with_rects, most_rects, Block};
 ghost use Rattle.guillotine.specs.Insertions.{touches, touches_any, others, split_by, Insertable, At, Replaces, Inserts};
 
-use adjacent::Merged;
-use best_place::BestFit;
+use best_place::ScoredPlace;
 use model::{
     BaselineGuillotineHeuristic, CutInstance, Direction, FitResult, PatternDirection, Rect,
 };
-use split::Remainder;
 
 // ---- the rectangles changed in place (`swap_remove`, `push`)
 
 // The last rectangle takes the place of the one at the index.
+#[tactic(auto, using(rect_words::proofs::Words::remove_words))]
 fn remove_at(sheet: &mut [u32], index: usize)
     requires { Block sheet.old × (index < get_or sheet.old 0 0) }
     ensures { sheet.new ≡ with_rects (swap_remove no_rect index (rects_in sheet.old)) sheet.old }
@@ -32,6 +30,7 @@ fn remove_at(sheet: &mut [u32], index: usize)
     rect_words::put_rect(sheet, index, rect);
 }
 
+#[tactic(auto, using(rect_words::proofs::Words::push_words))]
 fn push_rect(sheet: &mut [u32], rect: Rect)
     requires { Block sheet.old × (get_or sheet.old 0 0 < most_rects) }
     ensures { sheet.new ≡ with_rects (rects_in sheet.old ++ (rect ∷ [])) sheet.old }
@@ -41,20 +40,22 @@ fn push_rect(sheet: &mut [u32], rect: Rect)
     rect_words::put_rect(sheet, count, rect);
 }
 
-fn push_remainder(sheet: &mut [u32], remainder: Remainder)
+#[tactic(auto, using(crate::proofs::Replacing::push_none))]
+fn push_remainder(sheet: &mut [u32], remainder: Option<Rect>)
     requires { Block sheet.old × (get_or sheet.old 0 0 < most_rects) }
-    ensures { sheet.new ≡ with_rects (rects_in sheet.old ++ remainder_of remainder) sheet.old }
+    ensures { sheet.new ≡ with_rects (rects_in sheet.old ++ option_to_list remainder) sheet.old }
 {
     match remainder {
-        Remainder::Nothing => {}
-        Remainder::One(rect) => push_rect(sheet, rect),
+        None => {}
+        Some(rect) => push_rect(sheet, rect),
     }
 }
 
 // The rectangle at the index gives way to the remainders.
-fn replace(sheet: &mut [u32], index: usize, bottom: Remainder, right: Remainder)
+#[tactic(auto, using(crate::proofs::Replacing::ready_first, crate::proofs::Replacing::ready_second, crate::proofs::Replacing::with_both))]
+fn replace(sheet: &mut [u32], index: usize, bottom: Option<Rect>, right: Option<Rect>)
     requires { Block sheet.old × (index < get_or sheet.old 0 0) × (get_or sheet.old 0 0 < most_rects) }
-    ensures { sheet.new ≡ with_rects (swap_remove no_rect index (rects_in sheet.old) ++ (remainder_of bottom ++ remainder_of right)) sheet.old }
+    ensures { sheet.new ≡ with_rects (swap_remove no_rect index (rects_in sheet.old) ++ (option_to_list bottom ++ option_to_list right)) sheet.old }
 {
     remove_at(sheet, index);
     push_remainder(sheet, bottom);
@@ -68,56 +69,47 @@ fn merges(left: Rect, right: Rect, kerf_width: u32) -> bool
     requires { Small left × Small right × (kerf_width ≤ most_side) }
     ensures { result ≡ is_some (merge_adjacent_rects kerf_width left right) }
 {
-    let merged = adjacent::merge_adjacent_rects(left, right, kerf_width);
-    match merged {
-        Merged::Into(_) => true,
-        Merged::Nothing => false,
-    }
+    adjacent::merge_adjacent_rects(left, right, kerf_width).is_some()
 }
 
 // Whether one of the rectangles in a range merges with this one.
+#[tactic(auto, using(crate::proofs::Touching::touch_hit, crate::proofs::Touching::touch_miss, crate::proofs::Touching::touch_end, crate::proofs::Touching::small_at))]
 fn touches_between(sheet: &[u32], from: usize, to: usize, rect: Rect, kerf_width: u32) -> bool
     requires { Insertable kerf_width sheet.now × (to ≤ get_or sheet.now 0 0) × Small rect }
     ensures { result ≡ touches kerf_width rect (drop from (take to (rects_in sheet.now))) }
 {
-    let mut index = from;
-    while index < to {
-        let other = rect_words::rect_at(sheet, index);
-        if merges(other, rect, kerf_width) {
+    for index in from..to {
+        if merges(rect_words::rect_at(sheet, index), rect, kerf_width) {
             return true;
         }
-        index += 1;
     }
     false
 }
 
 // Whether one of the rectangles but the one at the index merges with the remainder.
-fn touches_others(sheet: &[u32], kerf_width: u32, index: usize, remainder: Remainder) -> bool
-    requires { Insertable kerf_width sheet.now × (index < get_or sheet.now 0 0) × All Small (remainder_of remainder) }
-    ensures { result ≡ touches_any kerf_width (remainder_of remainder) (others index (rects_in sheet.now)) }
+#[tactic(auto, using(crate::proofs::Touching::touches_one, crate::proofs::Touching::touches_no, crate::proofs::Touching::whole_range))]
+fn touches_others(sheet: &[u32], kerf_width: u32, index: usize, remainder: Option<Rect>) -> bool
+    requires { Insertable kerf_width sheet.now × (index < get_or sheet.now 0 0) × All Small (option_to_list remainder) }
+    ensures { result ≡ touches_any kerf_width (option_to_list remainder) (others index (rects_in sheet.now)) }
 {
     match remainder {
-        Remainder::Nothing => false,
-        Remainder::One(rect) => {
-            if touches_between(sheet, 0, index, rect, kerf_width) {
-                return true;
-            }
+        None => false,
+        Some(rect) => {
             let count = sheet[0] as usize;
-            touches_between(sheet, index + 1, count, rect, kerf_width)
+            touches_between(sheet, 0, index, rect, kerf_width)
+                || touches_between(sheet, index + 1, count, rect, kerf_width)
         }
     }
 }
 
-fn remainders_merge(bottom: Remainder, right: Remainder, kerf_width: u32) -> bool
-    requires { All Small (remainder_of bottom) × All Small (remainder_of right) × (kerf_width ≤ most_side) }
-    ensures { result ≡ touches_any kerf_width (remainder_of right) (remainder_of bottom) }
+#[tactic(auto, using(crate::proofs::Touching::touches_none, crate::proofs::Touching::touches_no, crate::proofs::Touching::touches_two))]
+fn remainders_merge(bottom: Option<Rect>, right: Option<Rect>, kerf_width: u32) -> bool
+    requires { All Small (option_to_list bottom) × All Small (option_to_list right) × (kerf_width ≤ most_side) }
+    ensures { result ≡ touches_any kerf_width (option_to_list right) (option_to_list bottom) }
 {
-    match bottom {
-        Remainder::Nothing => false,
-        Remainder::One(a) => match right {
-            Remainder::Nothing => false,
-            Remainder::One(b) => merges(a, b, kerf_width),
-        },
+    match (bottom, right) {
+        (Some(a), Some(b)) => merges(a, b, kerf_width),
+        _ => false,
     }
 }
 
@@ -126,19 +118,15 @@ fn merges_any(
     sheet: &[u32],
     kerf_width: u32,
     index: usize,
-    bottom: Remainder,
-    right: Remainder,
+    bottom: Option<Rect>,
+    right: Option<Rect>,
 ) -> bool
-    requires { Insertable kerf_width sheet.now × (index < get_or sheet.now 0 0) × All Small (remainder_of bottom) × All Small (remainder_of right) }
-    ensures { result ≡ merges_any kerf_width (swap_remove no_rect index (rects_in sheet.now) ++ (remainder_of bottom ++ remainder_of right)) }
+    requires { Insertable kerf_width sheet.now × (index < get_or sheet.now 0 0) × All Small (option_to_list bottom) × All Small (option_to_list right) }
+    ensures { result ≡ merges_any kerf_width (swap_remove no_rect index (rects_in sheet.now) ++ (option_to_list bottom ++ option_to_list right)) }
 {
-    if touches_others(sheet, kerf_width, index, bottom) {
-        return true;
-    }
-    if touches_others(sheet, kerf_width, index, right) {
-        return true;
-    }
-    remainders_merge(bottom, right, kerf_width)
+    touches_others(sheet, kerf_width, index, bottom)
+        || touches_others(sheet, kerf_width, index, right)
+        || remainders_merge(bottom, right, kerf_width)
 }
 
 // ---- the insertion
@@ -155,15 +143,13 @@ fn insert_merging(
     requires { Insertable kerf_width sheet.old × At (rects_in sheet.old) index free_rect × Inside placed free_rect }
     ensures { Replaces kerf_width (split_by kerf_width index free_rect placed direction (rects_in sheet.old)) sheet.old sheet.new result }
 {
-    let free = rect_words::load(sheet);
-    let without = free_rects::swap_remove(free, index);
-    let with = free_rects::split_free_rect_in_direction(
-        without, free_rect, placed, kerf_width, direction,
-    );
-    let after = merging::merge_free_rects(with, kerf_width, without.count);
-    let merged = after.free;
-    rect_words::store(sheet, merged);
-    after.any
+    let mut free = rect_words::load(sheet);
+    free.swap_remove(index);
+    let old = free.len();
+    free_rects::split_free_rect_in_direction(&mut free, free_rect, placed, kerf_width, direction);
+    let any = merging::merge_free_rects(&mut free, kerf_width, old);
+    rect_words::store(sheet, &free);
+    any
 }
 
 // The free rectangle at the index gives way to what the piece leaves of it. Most often nothing merges then,
@@ -188,16 +174,13 @@ fn insert_at(
     false
 }
 
-// Where the cut was inserted, and whether free rectangles merged then.
+// Where a cut was inserted, and whether free rectangles merged then.
 #[derive(Clone, Copy)]
-pub enum Inserted {
-    Nothing,
-    At {
-        index: usize,
-        free_rect: Rect,
-        fit: FitResult,
-        merged: bool,
-    },
+pub struct Inserted {
+    pub index: usize,
+    pub free_rect: Rect,
+    pub fit: FitResult,
+    pub merged: bool,
 }
 
 pub fn try_insert(
@@ -206,27 +189,28 @@ pub fn try_insert(
     stock_pattern: PatternDirection,
     cut: CutInstance,
     heuristic: BaselineGuillotineHeuristic,
-) -> Inserted
+) -> Option<Inserted>
     requires { Insertable kerf_width sheet.old }
     ensures { Inserts kerf_width stock_pattern cut heuristic sheet.old sheet.new result }
 {
-    let BestFit::At {
+    let Some(
+        ScoredPlace {
+            index,
+            free_rect,
+            fit,
+            ..
+        },
+    ) = best_place::best_fit(sheet, cut, stock_pattern, heuristic)
+    else {
+        return None;
+    };
+    let placed = fit.rect;
+    let direction = choice::split_direction(free_rect, placed, heuristic.split);
+    let merged = insert_at(sheet, kerf_width, index, free_rect, placed, direction);
+    Some(Inserted {
         index,
         free_rect,
         fit,
-        score: _,
-    } = best_place::best_fit(sheet, cut, stock_pattern, heuristic)
-    else {
-        return Inserted::Nothing;
-    };
-    let placed = fit.rect;
-    let split = heuristic.split;
-    let direction = choice::split_direction(free_rect, placed, split);
-    let merged = insert_at(sheet, kerf_width, index, free_rect, placed, direction);
-    Inserted::At {
-        index: index,
-        free_rect: free_rect,
-        fit: fit,
-        merged: merged,
-    }
+        merged,
+    })
 }

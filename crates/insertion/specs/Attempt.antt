@@ -1,5 +1,5 @@
 -- One attempt to insert a cut, by numbers.
-use Rattle.std.specs.Prelude.{ℕ, true, List}
+use Rattle.std.specs.Prelude.{ℕ, true, List, Option}
 use Rattle.model.specs.declared.PatternDirection.{PatternDirection}
 use Rattle.model.specs.declared.CutInstance.{CutInstance}
 use Rattle.model.specs.Search.{heuristic_variants, default_heuristic}
@@ -12,5 +12,5 @@ plain_cut width length = record { cut_id = 0; instance = 0; width = width; lengt
 
 -- by the source's default heuristic, on a board without a pattern
 pub record Attempt (kerf width length : ℕ) (before after : List ℕ) : Type 0 where
-  pub inserted : Inserted
+  pub inserted : Option Inserted
   pub inserts : Inserts kerf PatternDirection.None (plain_cut width length) (default_heuristic heuristic_variants) before after inserted

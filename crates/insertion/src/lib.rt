@@ -12,6 +12,7 @@ use model::{
     PatternDirection, RotationPreference,
 };
 
+#[tactic(auto, unfolding(model::specs::Search::default_heuristic, model::specs::Search::heuristic_variants))]
 fn default_heuristic() -> BaselineGuillotineHeuristic
     ensures { result ≡ default_heuristic heuristic_variants }
 {
@@ -28,8 +29,8 @@ fn plain_cut(width: u32, length: u32) -> CutInstance
     CutInstance {
         cut_id: 0,
         instance: 0,
-        width: width,
-        length: length,
+        width,
+        length,
         pattern: PatternDirection::None,
         can_rotate: true,
     }

@@ -1,5 +1,5 @@
 -- The tables hold what the definition expands the project to.
-use Prim.Native.Nat.{ℕ, ◌+◌, ◌-◌, ◌*◌, ◌/◌, ◌≤◌, ◌<◌}
+use Prim.Native.Nat.{ℕ, ◌+◌, ◌-◌, ◌*◌, ◌≤◌, ◌<◌}
 use native.Mathlib.Nat.{le_trans, mul-le-mul_left}
 use native.Mathlib.Omega.{arith}
 use mathlib.Core.Path.{◌≡◌, refl, sym, ap, ap₂, ◌∙◌, subst}
@@ -8,7 +8,7 @@ use mathlib.Core.List.{List, [], ◌∷◌, ◌++◌, map}
 use mathlib.Core.Option.{none}
 use lib.Dec.{lit≤}
 use lib.ListN.{length, get_or, take, drop, replicate, length-append, length-drop, length-replicate}
-use lib.Seq.{take_at, drop_at, length-take-le, get_or-take}
+use lib.Seq.{take_at, drop_at, length-take-le}
 use borrow.Author.Tests.{ltb-false}
 use Rattle.lists.specs.Base.{range, concat_map, sum, sort_by}
 use Rattle.lists.specs.Parts.{patch}
@@ -19,7 +19,7 @@ use Rattle.lists.proofs.Arrays.{drop_replicate}
 use Rattle.lists.proofs.Counts.{map_range}
 use Rattle.lists.proofs.Maps.{concat_map_concat_map, concat_map_map}
 use Rattle.model.specs.declared.StockInstance.{StockInstance}
-use Rattle.model.specs.Project.{Piece, project_of, stock_start, stock_length, cuts_start, cuts_length, record_length}
+use Rattle.model.specs.Project.{Piece, project_of}
 use Rattle.model.specs.Refusal.{Check, RecordRule, stock_rule, cut_rule, record_checks, settings_checks, whole_checks, project_checks, file_refusal, total_quantity}
 use Rattle.model.specs.Expand.{compare_stock, stock_instances, cut_instances, expand_project}
 use Rattle.trust.proofs.Checks.{file_passed}
@@ -28,9 +28,7 @@ use Rattle.orders.specs.Order.{sorted_order}
 use Rattle.rows.proofs.Rows.{length_rows, row_within, row_of, stock_sized, cut_sized, stock_known}
 use Rattle.orders.proofs.Order.{length_sorted, sorted_below, sorted_stock_rows}
 use Rattle.project.specs.declared.Kind.{Kind}
-use Rattle.project.specs.Records.{records_from}
 use Rattle.instances.specs.Tables.{Holds, rows_of, row_by}
-use Rattle.project.proofs.Shape.{stock_is, cuts_is}
 
 -- ---- instances are as many as the quantities say
 
@@ -70,29 +68,24 @@ held_as width f g l m words count n e h = record { counted = h.counted ∙ n; ro
 
 -- ---- stock in its order
 
-module _ (raw order : List ℕ) (count m : ℕ) (e : order ≡ sorted_order stock_words raw count ++ replicate m 0) where
-  order_front : take count order ≡ sorted_order stock_words raw count
-  order_front = ap (take count) e ∙ take_at (sorted_order stock_words raw count) (replicate m 0) count (length_sorted stock_words raw count)
+module _ (raw order : List ℕ) (count : ℕ) (e : order ≡ sorted_order stock_words raw count) where
+  pub order_long : length order ≡ count
+  order_long = ap length e ∙ length_sorted stock_words raw count
 
-  pub order_long : count ≤ length order
-  order_long = omega (arith, ap length e, length-append (sorted_order stock_words raw count) (replicate m 0), length_sorted stock_words raw count)
-
-  pub order_row : stock_words * count ≤ length raw → (k : ℕ) → k < count → stock_words * get_or order k 0 + stock_words ≤ length raw
+  pub order_row : stock_words * count ≤ length raw → (k : ℕ) → k < length order → stock_words * get_or order k 0 + stock_words ≤ length raw
   order_row h k b =
-      let below : get_or (sorted_order stock_words raw count) k 0 < count =
-      all_get (λ i. i < count) (sorted_order stock_words raw count) k 0 (sorted_below stock_words raw count) (omega (arith, length_sorted stock_words raw count))
-      in
-      let same : get_or order k 0 ≡ get_or (sorted_order stock_words raw count) k 0 = sym (get_or-take count order k 0 b) ∙ ap (λ (o : List ℕ). get_or o k 0) order_front in
-      omega (arith, row_within stock_words (get_or order k 0) count (omega arith))
+      let below : get_or order k 0 < count = all_get (λ i. i < count) order k 0 (subst (All (λ i. i < count)) (sym e) (sorted_below stock_words raw count)) b in
+      omega (arith, row_within stock_words (get_or order k 0) count below)
 
   -- the rows by the numbers of the order are the rows in that order
-  pub order_rows : concat_map (row_by raw order) (range count) ≡ concat_map (row_at stock_words raw) (sorted_order stock_words raw count)
+  pub order_rows : concat_map (row_by raw order) (range (length order)) ≡ concat_map (row_at stock_words raw) (sorted_order stock_words raw count)
   order_rows =
-      let front : List ℕ = take count order in
-      let long : length front ≡ count = ap length order_front ∙ length_sorted stock_words raw count in
-      let read : map (λ k. get_or order k 0) (range (length front)) ≡ front = map_range 0 (λ k. get_or order k 0) front (λ k h. sym (get_or-take count order k 0 (omega arith))) in
-      sym (concat_map_map (row_at stock_words raw) (λ k. get_or order k 0) (range count))
-      ∙ ap (concat_map (row_at stock_words raw)) (ap (λ (n : ℕ). map (λ k. get_or order k 0) (range n)) (sym long) ∙ read ∙ order_front)
+      sym (concat_map_map (row_at stock_words raw) (λ k. get_or order k 0) (range (length order)))
+      ∙ ap (concat_map (row_at stock_words raw)) (map_range 0 (λ k. get_or order k 0) order (λ k h. refl) ∙ e)
+
+-- the first numbers of an order with zeros behind
+pub order_front : (raw order : List ℕ) (count m : ℕ) → order ≡ sorted_order stock_words raw count ++ replicate m 0 → take count order ≡ sorted_order stock_words raw count
+order_front raw order count m e = ap (take count) e ∙ take_at (sorted_order stock_words raw count) (replicate m 0) count (length_sorted stock_words raw count)
 
 module _ (raw : List ℕ) (n : ℕ) (fits : stock_words * n ≤ length raw) where
   length_by_number : (o : List ℕ) → All (λ i. i < n) o → length (concat_map (row_at stock_words raw) o) ≡ stock_words * length o
@@ -180,32 +173,28 @@ module _ {A : Type 0} (width : ℕ) (row : A → List ℕ) (sized : (a : A) → 
       held width row (concat_map instances ps) size words count (e ∙ sym (counted ps)) (long ∙ ap (λ (n : ℕ). width * n) (sym e)) (omega (arith, long))
       (w ∙ ap (patch (replicate size 0) 0) (concat_map_concat_map row instances ps))
 
--- of a file that passed, the n records of the stock, and of the cuts that start at a place
-module _ (bytes : List ℕ) (e : file_refusal bytes ≡ none) where
+-- of a file that passed, the records of the stock and of the cuts
+module _ (bytes : List ℕ) (e : file_refusal bytes ≡ none) (ps : List Piece) where
   few_words : (width n size : ℕ) → n ≤ 64 → width * 64 ≤ size → width * n ≤ size
   few_words width n size h k = le_trans (mul-le-mul_left width h) k
 
-  module _ (n : ℕ) (n_is : n ≡ stock_length bytes / record_length) where
-    stock_all : records_from bytes stock_start 0 n ≡ (project_of bytes).stock
-    stock_all = ap (records_from bytes stock_start 0) n_is ∙ stock_is bytes
+  module _ (ps_is : ps ≡ (project_of bytes).stock) where
+    pub stock_few_lem : total_quantity ps ≤ 64
+    stock_few_lem = rw ps_is (few_stock bytes e)
 
-    pub stock_few_lem : total_quantity (records_from bytes stock_start 0 n) ≤ 64
-    stock_few_lem = rw stock_all (few_stock bytes e)
+    pub stock_room_lem : (size : ℕ) → stock_words * 64 ≤ size → length (concat_map (rows_of Kind.Stock) ps) ≤ size
+    stock_room_lem size h = room stock_words stock_row stock_sized stock_instances stock_count ps size (few_words stock_words _ size stock_few_lem h)
 
-    pub stock_room_lem : (size : ℕ) → stock_words * 64 ≤ size → length (concat_map (rows_of Kind.Stock) (records_from bytes stock_start 0 n)) ≤ size
-    stock_room_lem size h =
-        room stock_words stock_row stock_sized stock_instances stock_count (records_from bytes stock_start 0 n) size (few_words stock_words _ size stock_few_lem h)
-
-    stock_held : (size : ℕ) → stock_words * 64 ≤ size → (raw : List ℕ) (count : ℕ) → count ≡ total_quantity (records_from bytes stock_start 0 n)
-        → raw ≡ patch (replicate size 0) 0 (concat_map (rows_of Kind.Stock) (records_from bytes stock_start 0 n))
+    stock_held : (size : ℕ) → stock_words * 64 ≤ size → (raw : List ℕ) (count : ℕ) → count ≡ total_quantity ps
+        → raw ≡ patch (replicate size 0) 0 (concat_map (rows_of Kind.Stock) ps)
         → Holds stock_words stock_row (concat_map stock_instances (project_of bytes).stock) raw count
     stock_held size h raw count c r =
-        subst (λ (ps : List Piece). Holds stock_words stock_row (concat_map stock_instances ps) raw count) stock_all
-        (all_held stock_words stock_row stock_sized stock_instances stock_count (records_from bytes stock_start 0 n) size (few_words stock_words _ size stock_few_lem h) raw count c r)
+        subst (λ (qs : List Piece). Holds stock_words stock_row (concat_map stock_instances qs) raw count) ps_is
+        (all_held stock_words stock_row stock_sized stock_instances stock_count ps size (few_words stock_words _ size stock_few_lem h) raw count c r)
 
     -- the table of the sorted stock
-    pub stock_done : (size : ℕ) → stock_words * 64 ≤ size → (raw words : List ℕ) (count count' : ℕ) → count ≡ total_quantity (records_from bytes stock_start 0 n)
-        → raw ≡ patch (replicate size 0) 0 (concat_map (rows_of Kind.Stock) (records_from bytes stock_start 0 n))
+    pub stock_done : (size : ℕ) → stock_words * 64 ≤ size → (raw words : List ℕ) (count count' : ℕ) → count ≡ total_quantity ps
+        → raw ≡ patch (replicate size 0) 0 (concat_map (rows_of Kind.Stock) ps)
         → Holds stock_words (row_at stock_words raw) (sorted_order stock_words raw count) words count'
         → Holds stock_words stock_row (expand_project (project_of bytes)).stock words count'
     unfolding expand_project
@@ -218,28 +207,25 @@ module _ (bytes : List ℕ) (e : file_refusal bytes ≡ none) where
         ∙ sorted_words raw l (ap (λ (m : ℕ). take (stock_words * m) raw) (sym k.counted) ∙ k.rows))
         w
 
-  module _ (start n : ℕ) (start_is : start ≡ cuts_start bytes) (n_is : n ≡ cuts_length bytes / record_length) where
-    cuts_all : records_from bytes start 0 n ≡ (project_of bytes).cuts
-    cuts_all = ap₂ (λ (at m : ℕ). records_from bytes at 0 m) start_is n_is ∙ cuts_is bytes
+  module _ (ps_is : ps ≡ (project_of bytes).cuts) where
+    pub cuts_few_lem : total_quantity ps ≤ 64
+    cuts_few_lem = rw ps_is (few_cuts_lem bytes e)
 
-    pub cuts_few_lem : total_quantity (records_from bytes start 0 n) ≤ 64
-    cuts_few_lem = rw cuts_all (few_cuts_lem bytes e)
+    pub cuts_room : (size : ℕ) → cut_words * 64 ≤ size → length (concat_map (rows_of Kind.Cut) ps) ≤ size
+    cuts_room size h = room cut_words cut_row cut_sized cut_instances cut_count ps size (few_words cut_words _ size cuts_few_lem h)
 
-    pub cuts_room : (size : ℕ) → cut_words * 64 ≤ size → length (concat_map (rows_of Kind.Cut) (records_from bytes start 0 n)) ≤ size
-    cuts_room size h = room cut_words cut_row cut_sized cut_instances cut_count (records_from bytes start 0 n) size (few_words cut_words _ size cuts_few_lem h)
-
-    pub cuts_done : (size : ℕ) → cut_words * 64 ≤ size → (words : List ℕ) (count : ℕ) → count ≡ total_quantity (records_from bytes start 0 n)
-        → words ≡ patch (replicate size 0) 0 (concat_map (rows_of Kind.Cut) (records_from bytes start 0 n))
+    pub cuts_done : (size : ℕ) → cut_words * 64 ≤ size → (words : List ℕ) (count : ℕ) → count ≡ total_quantity ps
+        → words ≡ patch (replicate size 0) 0 (concat_map (rows_of Kind.Cut) ps)
         → Holds cut_words cut_row (expand_project (project_of bytes)).cuts words count
     unfolding expand_project
     cuts_done size h words count c r =
-        subst (λ (ps : List Piece). Holds cut_words cut_row (concat_map cut_instances ps) words count) cuts_all
-        (all_held cut_words cut_row cut_sized cut_instances cut_count (records_from bytes start 0 n) size (few_words cut_words _ size cuts_few_lem h) words count c r)
+        subst (λ (qs : List Piece). Holds cut_words cut_row (concat_map cut_instances qs) words count) ps_is
+        (all_held cut_words cut_row cut_sized cut_instances cut_count ps size (few_words cut_words _ size cuts_few_lem h) words count c r)
 
 -- the copied rows of a sorted order
-pub sorted_held : (raw order words : List ℕ) (count size m : ℕ) → stock_words * count ≤ length raw → stock_words * count ≤ size
-    → order ≡ sorted_order stock_words raw count ++ replicate m 0 → words ≡ patch (replicate size 0) 0 (concat_map (row_by raw order) (range count))
+pub sorted_held : (raw order words : List ℕ) (count size : ℕ) → stock_words * count ≤ length raw → stock_words * count ≤ size
+    → order ≡ sorted_order stock_words raw count → words ≡ patch (replicate size 0) 0 (concat_map (row_by raw order) (range (length order)))
     → Holds stock_words (row_at stock_words raw) (sorted_order stock_words raw count) words count
-sorted_held raw order words count size m h k o w =
+sorted_held raw order words count size h k o w =
     held stock_words (row_at stock_words raw) (sorted_order stock_words raw count) size words count (sym (length_sorted stock_words raw count))
-    (length_ordered raw count h) (omega (arith, length_ordered raw count h)) (w ∙ ap (patch (replicate size 0) 0) (order_rows raw order count m o))
+    (length_ordered raw count h) (omega (arith, length_ordered raw count h)) (w ∙ ap (patch (replicate size 0) 0) (order_rows raw order count o))

@@ -4,18 +4,18 @@ use native.Mathlib.Omega.{arith}
 use mathlib.Core.Path.{◌≡◌, refl, sym, ap, ◌∙◌}
 use mathlib.Core.List.{List, [], ◌∷◌, ◌++◌}
 use lib.Dec.{eqb, lit≤}
-use lib.ListN.{length, get_or, drop, length-append, length-take, length-drop}
+use lib.ListN.{length, get_or, take, drop, length-append, length-take, length-drop}
 use lib.Seq.{length-take-le}
 use Rattle.lists.specs.Base.{count_from, range, concat_map}
 use Rattle.lists.specs.Parts.{patch}
 use Rattle.lists.proofs.Maps.{concat_map_map}
 use Rattle.lists.proofs.Parts.{patch_nil, length_patch, patch_append}
 use Rattle.model.specs.Types.{pattern_code, pattern_of, flag_code}
-use Rattle.model.specs.Project.{Piece}
+use Rattle.model.specs.Project.{Piece, record_length}
 use Rattle.model.specs.Expand.{stock_instances, cut_instances}
 use Rattle.rows.specs.Rows.{stock_words, stock_row, cut_row}
 use Rattle.project.specs.declared.Kind.{Kind}
-use Rattle.project.specs.Records.{record_at, records_from}
+use Rattle.project.specs.Records.{record_at, records}
 use Rattle.instances.specs.Tables.{words_of, row_of, rows_of, row_by}
 
 -- ---- codes
@@ -33,24 +33,15 @@ code_small (suc (suc (suc n))) h = absurd (omega arith)
 
 -- ---- a row of an instance
 
-pub least_words : (k : Kind) → 6 ≤ words_of k
-least_words Kind.Stock = lit≤ tt
-least_words Kind.Cut = lit≤ tt
-
 pub length_row : (k : Kind) (p : Piece) (n : ℕ) → length (row_of k p n) ≡ words_of k
 length_row Kind.Stock p n = refl
 length_row Kind.Cut p n = refl
 
-module _ (p : Piece) (k : Kind) (n low high code : ℕ)
-    (low_is : low ≡ p.id % 2 ^ 32) (high_is : high ≡ p.id / 2 ^ 32) (code_is : code ≡ pattern_code (pattern_of p.pattern)) where
-  abbrev six : List ℕ
-  six = low ∷ high ∷ n ∷ p.width ∷ p.length ∷ code ∷ []
-
-  pub stock_row_lem : k ≡ Kind.Stock → six ≡ row_of k p n
-  stock_row_lem e = rw (e, low_is, high_is, code_is)
-
-  pub cut_row_lem : (flag : ℕ) → k ≡ Kind.Cut → flag ≡ flag_code (eqb p.flag 1) → six ++ (flag ∷ []) ≡ row_of k p n
-  cut_row_lem flag e f = rw (e, low_is, high_is, code_is, f)
+-- the first words of a cut's row are the words of a row of its kind
+pub row_is : (p : Piece) (k : Kind) (n m low high code flag : ℕ) → m ≡ words_of k → low ≡ p.id % 2 ^ 32 → high ≡ p.id / 2 ^ 32 → code ≡ pattern_code (pattern_of p.pattern) → flag ≡ flag_code (eqb p.flag 1)
+    → take m (low ∷ high ∷ n ∷ p.width ∷ p.length ∷ code ∷ flag ∷ []) ≡ row_of k p n
+row_is p Kind.Stock n m low high code flag w e f g h = rw (w, e, f, g)
+row_is p Kind.Cut n m low high code flag w e f g h = rw (w, e, f, g, h)
 
 -- ---- rows written one behind the other
 
@@ -117,8 +108,8 @@ unfolding stock_instances cut_instances stock_row cut_row
 rows_of_lem Kind.Stock p = sym (concat_map_map stock_row _ (range p.quantity))
 rows_of_lem Kind.Cut p = sym (concat_map_map cut_row _ (range p.quantity))
 
-records_rows : (k : Kind) (bytes : List ℕ) (base n : ℕ) → concat_map (λ i. rows_of k (record_at bytes base i)) (range n) ≡ concat_map (rows_of k) (records_from bytes base 0 n)
-records_rows k bytes base n = sym (concat_map_map (rows_of k) (record_at bytes base) (range n))
+records_rows : (k : Kind) (body : List ℕ) → concat_map (λ i. rows_of k (record_at body i)) (range (length body / record_length)) ≡ concat_map (rows_of k) (records body)
+records_rows k body = sym (concat_map_map (rows_of k) (record_at body) (range (length body / record_length)))
 
 -- the loop over a record's instances, in terms of its rows
 module _ (k : Kind) (p : Piece) (words₀ : List ℕ) (from : ℕ) where
@@ -132,12 +123,12 @@ module _ (k : Kind) (p : Piece) (words₀ : List ℕ) (from : ℕ) where
       (e.1 ∙ ap (λ (r : List ℕ). from + length r) (rows_of_lem k p), e.0 ∙ ap (patch words₀ from) (rows_of_lem k p))
 
 -- the loop over the records, in terms of their rows
-module _ (k : Kind) (bytes : List ℕ) (base n : ℕ) (words₀ : List ℕ) where
-  pub records_room : length (concat_map (rows_of k) (records_from bytes base 0 n)) ≤ length words₀ → 0 + length (concat_map (λ i. rows_of k (record_at bytes base i)) (range n)) ≤ length words₀
-  records_room h = rw (records_rows k bytes base n) (omega arith)
+module _ (k : Kind) (body : List ℕ) (words₀ : List ℕ) where
+  pub records_room : length (concat_map (rows_of k) (records body)) ≤ length words₀ → 0 + length (concat_map (λ i. rows_of k (record_at body i)) (range (length body / record_length))) ≤ length words₀
+  records_room h = rw (records_rows k body) (omega arith)
 
-  pub records_end : (words : List ℕ) → words ≡ patch words₀ 0 (concat_map (λ i. rows_of k (record_at bytes base i)) (range n)) → words ≡ patch words₀ 0 (concat_map (rows_of k) (records_from bytes base 0 n))
-  records_end words e = e ∙ ap (patch words₀ 0) (records_rows k bytes base n)
+  pub records_end : (words : List ℕ) → words ≡ patch words₀ 0 (concat_map (λ i. rows_of k (record_at body i)) (range (length body / record_length))) → words ≡ patch words₀ 0 (concat_map (rows_of k) (records body))
+  records_end words e = e ∙ ap (patch words₀ 0) (records_rows k body)
 
 -- ---- rows copied by number
 

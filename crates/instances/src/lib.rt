@@ -1,34 +1,22 @@
 // The instance tables of a project: boards in the order of first fit, panels in file order, as rows of words.
 #![tactic(auto)]
 
-ghost use Rattle.std.specs.Prelude.{◌≡◌, [], ◌∷◌, ℕ, ◌+◌, ◌*◌, ◌/◌, ◌%◌, ◌^◌, ◌≤◌, ◌<◌, eqb, length, get_or, take, drop};
+ghost use Rattle.std.specs.Prelude.{◌≡◌, ℕ, ◌+◌, ◌*◌, ◌≤◌, ◌<◌, eqb, length, get_or, take, drop};
 ghost use Rattle.std.proofs.Math.Option.{none};
 ghost use Rattle.lists.specs.Base.{concat_map, range};
 ghost use Rattle.lists.specs.Parts.{patch};
 ghost use Rattle.model.specs.Types.{pattern_code, pattern_of, flag_code};
-ghost use Rattle.model.specs.Project.{project_of, record_length};
+ghost use Rattle.model.specs.Project.{project_of};
 ghost use Rattle.model.specs.Refusal.{file_refusal};
 ghost use Rattle.model.specs.Expand.{expand_project};
 ghost use Rattle.rows.specs.Rows.{stock_words, cut_words, stock_row, cut_row, row_at};
 ghost use Rattle.orders.specs.Order.{sorted_order};
-ghost use Rattle.project.specs.Records.{piece_of, records_from};
+ghost use Rattle.project.specs.Records.{piece_of, records};
 ghost use Rattle.instances.specs.Tables.{Holds, words_of, row_of, rows_of, row_by};
 
 use project::{Kind, RawPiece};
 
-// ---- words
-
-fn low_word(n: u64) -> u32
-    ensures { result ≡ n % 2 ^ 32 }
-{
-    (n % 0x1_0000_0000) as u32
-}
-
-fn high_word(n: u64) -> u32
-    ensures { result ≡ n / 2 ^ 32 }
-{
-    (n >> 32) as u32
-}
+// ---- rows written
 
 // The codes as the definition reads them, whatever stands in the file.
 fn pattern_code(code: u32) -> u32
@@ -40,10 +28,8 @@ fn pattern_code(code: u32) -> u32
 fn flag_code(code: u32) -> u32
     ensures { result ≡ flag_code (eqb code 1) }
 {
-    if code == 1 { 1 } else { 0 }
+    u32::from(code == 1)
 }
-
-// ---- rows written
 
 fn row_words(kind: Kind) -> usize
     ensures { result ≡ words_of kind }
@@ -54,35 +40,21 @@ fn row_words(kind: Kind) -> usize
     }
 }
 
-fn store_six(words: &mut [u32], at: usize, u: u32, v: u32, w: u32, x: u32, y: u32, z: u32)
-    requires { at + 6 ≤ length words.old }
-    ensures { words.new ≡ patch words.old at (u ∷ v ∷ w ∷ x ∷ y ∷ z ∷ []) }
-{
-    copying::put_four(words, at, u, v, w, x);
-    copying::put_two(words, at + 4, y, z)
-}
-
-// An instance of a record.
+// An instance of a record; a board has no can_rotate.
 fn store_row(words: &mut [u32], at: usize, kind: Kind, p: RawPiece, instance: u32)
     requires { at + words_of kind ≤ length words.old }
     ensures { words.new ≡ patch words.old at (row_of kind (piece_of p) instance) }
 {
-    store_six(
-        words,
-        at,
-        low_word(p.id),
-        high_word(p.id),
+    let row = [
+        numbers::low_word(p.id),
+        numbers::high_word(p.id),
         instance,
         p.width,
         p.length,
         pattern_code(p.pattern),
-    );
-    match kind {
-        Kind::Stock => {}
-        Kind::Cut => {
-            words[at + 6] = flag_code(p.flag);
-        }
-    }
+        flag_code(p.flag),
+    ];
+    copying::put_words(words, at, &row[..row_words(kind)])
 }
 
 // The instances of a record, from index `from` on; the answer is the index behind them.
@@ -90,29 +62,22 @@ fn store_instances(words: &mut [u32], from: usize, kind: Kind, p: RawPiece) -> u
     requires { from + length (rows_of kind (piece_of p)) ≤ length words.old }
     ensures { (result ≡ from + length (rows_of kind (piece_of p))) × (words.new ≡ patch words.old from (rows_of kind (piece_of p))) }
 {
-    let step = row_words(kind);
-    let quantity = p.quantity;
     let mut at = from;
-    let mut n: u32 = 0;
-    while n < quantity {
+    for n in 0..p.quantity {
         store_row(words, at, kind, p, n);
-        at += step;
-        n += 1;
+        at += row_words(kind);
     }
     at
 }
 
-// The instances of the n records from `base` on, in file order.
-fn store_records(words: &mut [u32], kind: Kind, file: &[u8], base: usize, n: usize)
-    requires { (base + record_length * n ≤ length file.now) × (length (concat_map (rows_of kind) (records_from file.now base 0 n)) ≤ length words.old) }
-    ensures { words.new ≡ patch words.old 0 (concat_map (rows_of kind) (records_from file.now base 0 n)) }
+// The instances of a body's records, in file order.
+fn store_records(words: &mut [u32], kind: Kind, body: &[u8])
+    requires { length (concat_map (rows_of kind) (records body.now)) ≤ length words.old }
+    ensures { words.new ≡ patch words.old 0 (concat_map (rows_of kind) (records body.now)) }
 {
-    let mut at: usize = 0;
-    let mut i: usize = 0;
-    while i < n {
-        let p = project::piece_at(file, base + project::RECORD_LENGTH * i);
-        at = store_instances(words, at, kind, p);
-        i += 1;
+    let mut at = 0;
+    for i in 0..project::record_count(body) {
+        at = store_instances(words, at, kind, project::record_at(body, i));
     }
 }
 
@@ -122,38 +87,35 @@ fn copy_row(table: &[u32], from: usize, words: &mut [u32], at: usize)
     requires { (from + stock_words ≤ length table.now) × (at + stock_words ≤ length words.old) }
     ensures { words.new ≡ patch words.old at (take stock_words (drop from table.now)) }
 {
-    copying::put_words(words, at, &table[from..], rows::STOCK_WORDS)
+    copying::put_words(words, at, &table[from..from + rows::STOCK_WORDS])
 }
 
-// The stock rows that the first `count` numbers of `order` number, in that order.
-fn copy_rows(table: &[u32], order: &[u32], count: usize, words: &mut [u32])
-    requires { (count ≤ length order.now) × (stock_words * count ≤ length words.old)
-        × ((k : ℕ) → k < count → stock_words * get_or order.now k 0 + stock_words ≤ length table.now) }
-    ensures { words.new ≡ patch words.old 0 (concat_map (row_by table.now order.now) (range count)) }
+// The stock rows that the numbers of `order` number, in that order.
+fn copy_rows(table: &[u32], order: &[u32], words: &mut [u32])
+    requires { (stock_words * length order.now ≤ length words.old)
+        × ((k : ℕ) → k < length order.now → stock_words * get_or order.now k 0 + stock_words ≤ length table.now) }
+    ensures { words.new ≡ patch words.old 0 (concat_map (row_by table.now order.now) (range (length order.now))) }
 {
-    let mut at: usize = 0;
-    let mut k: usize = 0;
-    while k < count {
-        copy_row(table, rows::STOCK_WORDS * order[k] as usize, words, at);
+    let mut at = 0;
+    for row in order {
+        copy_row(table, rows::STOCK_WORDS * *row as usize, words, at);
         at += rows::STOCK_WORDS;
-        k += 1;
     }
 }
 
 // ---- tables
 
-// Instances as rows of words, 6 for a board and 7 for a panel, and how many there are.
+// Instances as rows of words, and how many there are.
 #[derive(Clone, Copy)]
-pub struct StockTable {
-    pub words: [u32; 384],
+pub struct Table<const WORDS: usize> {
+    pub words: [u32; WORDS],
     pub count: usize,
 }
 
-#[derive(Clone, Copy)]
-pub struct CutTable {
-    pub words: [u32; 448],
-    pub count: usize,
-}
+// 64 boards of 6 words, and 64 panels of 7.
+pub type StockTable = Table<384>;
+
+pub type CutTable = Table<448>;
 
 // The first `count` rows of a stock table, in the order of first fit.
 fn sorted_stock(raw: &[u32], count: usize) -> StockTable
@@ -162,7 +124,7 @@ fn sorted_stock(raw: &[u32], count: usize) -> StockTable
 {
     let order = orders::sorted_order(raw, rows::STOCK_WORDS, count);
     let mut words = [0u32; 384];
-    copy_rows(raw, &order, count, &mut words);
+    copy_rows(raw, &order[..count], &mut words);
     StockTable { words, count }
 }
 
@@ -171,10 +133,10 @@ pub fn stock_table(file: &[u8]) -> StockTable
     requires { file_refusal file.now ≡ none }
     ensures { Holds stock_words stock_row (expand_project (project_of file.now)).stock result.words result.count }
 {
-    let n = project::stock_records(file);
-    let count = project::total_quantity(file, project::STOCK_START, n) as usize;
+    let body = project::stock_body(file);
+    let count = project::total_quantity(body) as usize;
     let mut raw = [0u32; 384];
-    store_records(&mut raw, Kind::Stock, file, project::STOCK_START, n);
+    store_records(&mut raw, Kind::Stock, body);
     sorted_stock(&raw, count)
 }
 
@@ -183,10 +145,9 @@ pub fn cut_table(file: &[u8]) -> CutTable
     requires { file_refusal file.now ≡ none }
     ensures { Holds cut_words cut_row (expand_project (project_of file.now)).cuts result.words result.count }
 {
-    let start = project::cuts_start(file);
-    let n = project::cut_records(file);
-    let count = project::total_quantity(file, start, n) as usize;
+    let body = project::cuts_body(file);
+    let count = project::total_quantity(body) as usize;
     let mut words = [0u32; 448];
-    store_records(&mut words, Kind::Cut, file, start, n);
+    store_records(&mut words, Kind::Cut, body);
     CutTable { words, count }
 }

@@ -15,3 +15,4 @@ pub mod Counts
 pub mod Arrays
 pub mod Parts
 pub mod Tests
+pub mod Language

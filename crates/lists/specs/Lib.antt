@@ -1,2 +1,3 @@
 pub mod Base
+pub mod Language
 pub mod Parts

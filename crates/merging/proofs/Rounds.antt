@@ -4,10 +4,10 @@ use mathlib.Core.Bool.{Bool, true, false, ◌||◌}
 use mathlib.Core.Logic.{◌⊎◌, inl, inr}
 use mathlib.Core.List.{List}
 use mathlib.Core.Option.{Option, none, some}
-use Prim.Native.Nat.{ℕ, zero, suc, ◌+◌, ◌-◌, ◌≤◌, ◌<◌}
+use Prim.Native.Nat.{ℕ, zero, suc, ◌-◌, ◌<◌}
 use native.Mathlib.Omega.{arith}
 use lib.ListN.{length, take, get_or, set, length-set}
-use lib.Seq.{take-set-lt, take-set-le, take-take, length-take-le}
+use lib.Seq.{take-set-le, take-take}
 use Rattle.lists.specs.Base.{swap_remove}
 use Rattle.lists.proofs.Perm.{All, all_perm, perm_sym}
 use Rattle.lists.proofs.InPlace.{swap_remove_index}
@@ -16,10 +16,8 @@ use Rattle.model.specs.Types.{no_rect}
 use Rattle.model.specs.Merge.{Pair, merge_adjacent_rects, first_pair, apply_merge, merge_rounds, merge_free_rects, merges_any}
 use Rattle.trust.proofs.Geometry.{Joins, down, across, merged_joins}
 use Rattle.trust.proofs.Merging.{first_pair_mergeable, round, round_length}
-use Rattle.free_rects.specs.declared.FreeRects.{FreeRects}
-use Rattle.free_rects.specs.FreeList.{rects_of, Holds}
 use Rattle.split.specs.Bounds.{Small}
-use Rattle.merging.specs.Merging.{Scannable, MergesTo}
+use Rattle.merging.specs.Merging.{Scannable}
 use Rattle.merging.proofs.Apart.{first_passed}
 
 -- two small rectangles merge into a small one
@@ -34,7 +32,7 @@ merged_small kerf a b m e h k = go (merged_joins kerf a b m e)
     go (inl j) = joins_small j h k
     go (inr j) = joins_small j k h
 
-pub round_small : (kerf : ℕ) (l : List Rect) (p : Pair) → first_pair kerf l ≡ some p → All Small l → All Small (apply_merge l p)
+round_small : (kerf : ℕ) (l : List Rect) (p : Pair) → first_pair kerf l ≡ some p → All Small l → All Small (apply_merge l p)
 round_small kerf l p e a =
     let m = first_pair_mergeable kerf l p e in
     let r = round l p m in
@@ -42,7 +40,7 @@ round_small kerf l p e a =
     all_perm Small (perm_sym r.after) (merged_small kerf _ _ p.merged m.merges b.0 b.1.0, b.1.1)
 
 -- left of the merged rectangle all is as it was, and no pair merges
-pub round_apart : (kerf : ℕ) (l : List Rect) (p : Pair) → first_pair kerf l ≡ some p → first_pair kerf (take p.left (apply_merge l p)) ≡ none
+round_apart : (kerf : ℕ) (l : List Rect) (p : Pair) → first_pair kerf l ≡ some p → first_pair kerf (take p.left (apply_merge l p)) ≡ none
 unfolding apply_merge
 round_apart kerf l p e =
     let m = first_pair_mergeable kerf l p e in
@@ -66,7 +64,7 @@ unfolding merge_rounds
 rounds_stop zero kerf l e = refl
 rounds_stop (suc n) kerf l e = rw (e, merge_rounds)
 
-pub rounds_on : (m n kerf : ℕ) (l : List Rect) (p : Pair) → m ≡ suc n → first_pair kerf l ≡ some p → merge_rounds m kerf l ≡ merge_rounds n kerf (apply_merge l p)
+rounds_on : (m n kerf : ℕ) (l : List Rect) (p : Pair) → m ≡ suc n → first_pair kerf l ≡ some p → merge_rounds m kerf l ≡ merge_rounds n kerf (apply_merge l p)
 unfolding merge_rounds
 rounds_on m n kerf l p s e = rw (s, e, merge_rounds)
 
@@ -92,66 +90,31 @@ unfolding merges_any
 flag_on true kerf l p e = refl
 flag_on false kerf l p e = rw e
 
--- ---- a turn of the loop
+-- ---- a turn of the loop, and its end
 
--- g has a pair, and h is g with the left one replaced and the right one swap-removed
-pub record Turn (kerf : ℕ) (g h : FreeRects) (p : Pair) : Type 0 where
-  pub left : p.left < g.count
-  pub right : p.right < g.count
-  pub falls : h.count + 1 ≡ g.count
-  pub is : rects_of h ≡ apply_merge (rects_of g) p
-  pub next : Scannable kerf h p.left
+module _ (kerf : ℕ) (l : List Rect) (p : Pair) (e : first_pair kerf l ≡ some p) where
+  pub left_within : p.left < length l
+  left_within = let m = first_pair_mergeable kerf l p e in omega (arith, m.order, m.inside)
 
-module _ (kerf : ℕ) (g : FreeRects) (fresh : ℕ) (room : length g.rects ≡ 65) (ready : Scannable kerf g fresh) where
-  length_g : length (rects_of g) ≡ g.count
-  length_g =
-      let under : g.count ≤ length g.rects = omega (arith, ready.room) in
-      length-take-le g.count g.rects under
+  pub right_within : (m : List Rect) → m ≡ set l p.left p.merged → p.right < length m
+  right_within m s = rw (s, length-set) (first_pair_mergeable kerf l p e).inside
 
-  -- the pair lies within the count
-  pub found : (p : Pair) → first_pair kerf (rects_of g) ≡ some p → (p.left < p.right) × (p.right < g.count)
-  found p e =
-      let m = first_pair_mergeable kerf (rects_of g) p e in
-      (m.order, omega (arith, m.inside, length_g))
+  module _ (m after : List Rect) (stored : m ≡ set l p.left p.merged) (removed : after ≡ swap_remove no_rect p.right m) where
+    is : after ≡ apply_merge l p
+    unfolding apply_merge
+    is = rw stored at removed
 
-  pub turn : (p : Pair) (h : FreeRects) → first_pair kerf (rects_of g) ≡ some p
-      → Holds h (swap_remove no_rect p.right (take g.count (set g.rects p.left p.merged))) → Turn kerf g h p
-  unfolding apply_merge
-  turn p h e k =
-      let f = found p e in
-      let here : p.left < g.count = omega (arith, f.0, f.1) in
-      let stored : take g.count (set g.rects p.left p.merged) ≡ set (rects_of g) p.left p.merged =
-      take-set-lt g.count g.rects p.left p.merged here
-      in
-      let is : rects_of h ≡ apply_merge (rects_of g) p = k.is ∙ ap (swap_remove no_rect p.right) stored in
-      let counts : h.count ≡ length (apply_merge (rects_of g) p) =
-      k.counts ∙ ap (λ (l : List Rect). length (swap_remove no_rect p.right l)) stored
-      in
-      let less = round_length (rects_of g) p (first_pair_mergeable kerf (rects_of g) p e) in
-      let falls : h.count + 1 ≡ g.count = omega (arith, length_g) in
-      record {
-        left = here;
-        right = f.1;
-        falls = falls;
-        is = is;
-        next = record {
-          thin = ready.thin;
-          small = rw is (round_small kerf (rects_of g) p e ready.small);
-          room = omega (arith, ready.room);
-          apart = rw is (round_apart kerf (rects_of g) p e);
-        };
-      }
+    pub falls : length l ≡ suc (length after)
+    falls = rw is (sym (round_length l p (first_pair_mergeable kerf l p e)))
 
--- ---- the end of the loop: from f the rounds came to g, where no pair is left
-pub merged_all : (kerf : ℕ) (f g : FreeRects) (any : Bool) → length (rects_of f) ≡ f.count → length (rects_of g) ≡ g.count
-    → first_pair kerf (rects_of g) ≡ none
-    → merge_rounds g.count kerf (rects_of g) ≡ merge_rounds f.count kerf (rects_of f)
-    → (any || merges_any kerf (rects_of g)) ≡ merges_any kerf (rects_of f)
-    → g.count ≤ 65
-    → MergesTo kerf (rects_of f) (record { free = g; any = any })
+    pub scannable : (fresh : ℕ) → Scannable kerf l fresh → Scannable kerf after p.left
+    scannable fresh ready = record { thin = ready.thin; small = rw is (round_small kerf l p e ready.small); apart = rw is (round_apart kerf l p e) }
+
+    pub rounds_left : merge_rounds (length after) kerf after ≡ merge_rounds (length l) kerf l
+    rounds_left = sym (rounds_on (length l) (length after) kerf l p falls e ∙ ap (merge_rounds (length after) kerf) (sym is))
+
+-- from l the rounds came to m, where no pair is left
+pub merged_all : (kerf : ℕ) (l m : List Rect) → first_pair kerf m ≡ none → merge_rounds (length m) kerf m ≡ merge_rounds (length l) kerf l
+    → m ≡ merge_free_rects kerf l
 unfolding merge_free_rects
-merged_all kerf f g any lf lg e same flag room =
-    let is : rects_of g ≡ merge_rounds (length (rects_of f)) kerf (rects_of f) =
-    sym (rounds_stop g.count kerf (rects_of g) e) ∙ same ∙ ap (λ (n : ℕ). merge_rounds n kerf (rects_of f)) (sym lf)
-    in
-    record { free = record { is = is; counts = sym lg ∙ ap length is }; any = sym (flag_stop any kerf (rects_of g) e) ∙ flag; room = room }
+merged_all kerf l m e same = sym (rounds_stop (length m) kerf m e) ∙ same

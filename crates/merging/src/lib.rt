@@ -1,93 +1,62 @@
 // The merging of a sheet's free rectangles: `merge_free_rects`.
 #![tactic(auto)]
 
-ghost use Rattle.std.specs.Prelude.{◌≡◌, ◌<◌, ◌+◌, max};
-ghost use Rattle.model.specs.Merge.{first_pair};
-ghost use Rattle.free_rects.specs.FreeList.{rects_of};
-ghost use Rattle.merging.specs.Merging.{pair_of, Scannable, MergesTo};
+ghost use Rattle.std.specs.Prelude.{◌≡◌};
+ghost use Rattle.model.specs.Merge.{first_pair, merge_free_rects, merges_any};
+ghost use Rattle.merging.specs.Merging.{pair_of, Scannable};
 
-use adjacent::Merged;
 use free_rects::FreeRects;
 use model::Rect;
 
-// The first pair of rectangles that merge, by the left and then by the right one, and what they make.
+// Two rectangles that merge, by their places, and what they make.
 #[derive(Clone, Copy)]
-pub enum FoundPair {
-    Nothing,
-    At {
-        left: usize,
-        right: usize,
-        merged: Rect,
-    },
+struct FoundPair {
+    left: usize,
+    right: usize,
+    merged: Rect,
 }
 
-// The first right one to try with a left one: pairs within the first `fresh` are known not to merge.
-fn first_right(left: usize, fresh: usize) -> usize
-    requires { left < 65 }
-    ensures { result ≡ max (left + 1) fresh }
+// The first pair of rectangles that merge, by the left and then by the right one. Pairs within the first `fresh` are known not to merge.
+#[tactic(auto, using(crate::proofs::Scan::pair_row, crate::proofs::Scan::row_skip, crate::proofs::Scan::row_hit, crate::proofs::Scan::row_end, crate::proofs::Scan::pair_end))]
+fn find_pair(free: &[Rect], kerf_width: u32, fresh: usize) -> Option<FoundPair>
+    requires { Scannable kerf_width free.now fresh }
+    ensures { pair_of result ≡ first_pair kerf_width free.now }
 {
-    let next = left + 1;
-    if next < fresh { fresh } else { next }
-}
-
-fn find_pair(free: FreeRects, kerf_width: u32, fresh: usize) -> FoundPair
-    requires { Scannable kerf_width free fresh }
-    ensures { pair_of result ≡ first_pair kerf_width (rects_of free) }
-{
-    let count = free.count;
-    let mut found = FoundPair::Nothing;
-    let mut left: usize = 0;
-    'outer: while left < count {
-        let left_rect = free.rects[left];
-        let mut right = first_right(left, fresh);
-        while right < count {
-            let right_rect = free.rects[right];
-            let merged = adjacent::merge_adjacent_rects(left_rect, right_rect, kerf_width);
-            if let Merged::Into(rect) = merged {
-                found = FoundPair::At {
-                    left: left,
-                    right: right,
-                    merged: rect,
-                };
-                break 'outer;
+    let mut found = None;
+    'scan: for left in 0..free.len() {
+        let left_rect = free[left];
+        for right in fresh.max(left + 1)..free.len() {
+            if let Some(merged) = adjacent::merge_adjacent_rects(
+                left_rect,
+                free[right],
+                kerf_width,
+            ) {
+                found = Some(FoundPair {
+                    left,
+                    right,
+                    merged,
+                });
+                break 'scan;
             }
-            right += 1;
         }
-        left += 1;
     }
     found
 }
 
-// The free rectangles after all merges, and whether there was one.
-#[derive(Drop)]
-pub struct MergedFree {
-    pub free: FreeRects,
-    pub any: bool,
-}
-
-// After each merge the scan starts again from the first pair; left of the merged one none merges.
-pub fn merge_free_rects(free: FreeRects, kerf_width: u32, fresh: usize) -> MergedFree
-    requires { Scannable kerf_width free fresh }
-    ensures { MergesTo kerf_width (rects_of free) result }
+// Merges pairs until none is left, and says whether there was one. After each merge the scan starts again from the first pair;
+// left of the merged rectangle none merges.
+#[tactic(auto, using(crate::proofs::Rounds::left_within, crate::proofs::Rounds::flag_stop, crate::proofs::Rounds::merged_all))]
+pub fn merge_free_rects(free: &mut FreeRects, kerf_width: u32, mut fresh: usize) -> bool
+    requires { Scannable kerf_width free.old fresh }
+    ensures merged { free.new ≡ merge_free_rects kerf_width free.old }
+    ensures any { result ≡ merges_any kerf_width free.old }
 {
-    let mut after = free;
     let mut any = false;
-    let mut tried = fresh;
-    loop {
-        let FoundPair::At {
-            left,
-            right,
-            merged,
-        } = find_pair(after, kerf_width, tried)
-        else {
-            return MergedFree {
-                free: after,
-                any: any,
-            };
-        };
-        after.rects[left] = merged;
-        after = free_rects::swap_remove(after, right);
+    while let Some(pair) = find_pair(free.as_slice(), kerf_width, fresh) {
+        free.set(pair.left, pair.merged);
+        free.swap_remove(pair.right);
         any = true;
-        tried = left;
+        fresh = pair.left;
     }
+    any
 }

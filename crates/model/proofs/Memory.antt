@@ -1,4 +1,4 @@
--- The memory rules of document 01, read off the definition of the outcome.
+-- The rules of the lent memories, read off the definition of the outcome.
 use Prim.Native.Nat.{ℕ, ◌≤◌, ◌<◌}
 use mathlib.Core.Path.{◌≡◌, refl, ap, ◌∙◌}
 use mathlib.Core.Logic.{◌⊎◌, inl, inr}

@@ -1,4 +1,4 @@
--- The ★ cases of document 01, proved together: the definition answers every file of the table as the table does.
+-- The ★ cases, proved together: the definition answers every file of the table as the table does.
 -- (Written by tools/write_tables.py; the answers are the Rust's.)
 use Rattle.std.specs.Prelude.{◌≡◌, refl, [], ◌∷◌, map}
 use Rattle.model.specs.Answer.{answer}

@@ -1,4 +1,4 @@
--- What a sheet's making takes from the board's area and gives back: document 01, the loss of a split and kerf × shared side of a merge.
+-- What a sheet's making takes from the board's area and gives back: the loss of a split and kerf × shared side of a merge.
 use Rattle.std.specs.Prelude.{ℕ, zero, suc, ◌+◌, ◌*◌, ◌||◌, List, [], ◌∷◌, map, length, get_or, if◌then◌else◌}
 use Rattle.std.proofs.Math.Option.{none, some}
 use Rattle.lists.specs.Base.{sum}

@@ -52,7 +52,7 @@ answer_with rows bytes =
 unfoldable pub answer : List ℕ → Answer
 answer bytes = answer_with heuristic_variants bytes
 
--- the making of each of the winner's sheets (document 01's term), found from the file: its board and its insertions in their order
+-- the making of each of the winner's sheets, found from the file: its board and its insertions in their order
 unfoldable pub makings : List BaselineGuillotineHeuristic → List ℕ → List (StockInstance × List Insertion)
 makings rows bytes =
     elim (winner rows (expand_project (project_of bytes)) (search_numbers (effort_of (project_of bytes).effort))) [

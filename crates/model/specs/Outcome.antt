@@ -1,4 +1,4 @@
--- What a call of the entry answers and leaves: refusal 1, and the memory rules of document 01, over the file and the two lent memories.
+-- What a call of the entry answers and leaves: refusal 1, and the rules of the lent memories, over the file and the two lent memories.
 use Rattle.std.specs.Prelude.{ℕ, Bool, not, ◌&&◌, ◌||◌, List, ◌++◌, ltb, length, drop, replicate, if◌then◌else◌}
 use Rattle.lists.specs.Base.{is_empty, is_some}
 use Rattle.model.specs.Project.{project_of}

@@ -1,4 +1,4 @@
--- The project file of document 01 as numbers: contents, settings, stock records, cut records. Every field is read whatever the file is;
+-- The project file as numbers: contents, settings, stock records, cut records. Every field is read whatever the file is;
 -- `Refusal` says which files are refused.
 use Rattle.std.specs.Prelude.{ℕ, ◌+◌, ◌*◌, ◌/◌, ◌%◌, Bool, ◌&&◌, List, [], ◌∷◌, map, leb, eqb, length, take, drop}
 use Rattle.lists.specs.Base.{range}

@@ -1,4 +1,4 @@
--- The order of checks of document 01, from 2 to 14, as one table: the first that applies is given.
+-- The order of the checks that refuse a file, from 2 to 14, as one table: the first that applies is given.
 -- (1 is about lent memory: `Outcome`. 15 to 17 are the search's: `Answer`.)
 use Rattle.std.specs.Prelude.{ℕ, ◌+◌, Bool, not, ◌&&◌, ◌||◌, List, [], ◌∷◌, ◌++◌, map, ltb, eqb, if◌then◌else◌}
 use Rattle.std.proofs.Math.Option.{Option, none, some}

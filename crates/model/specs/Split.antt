@@ -37,7 +37,7 @@ unfoldable pub split_free_rect : Direction → ℕ → Rect → Rect → List Re
 split_free_rect direction kerf free placed =
     bottom_remainder kerf free placed (bottom_width direction free placed) ++ right_remainder kerf free placed (right_length direction free placed)
 
--- document 01, the loss of a split
+-- the loss of a split
 unfoldable pub split_loss : Direction → ℕ → Rect → Rect → ℕ
 split_loss direction kerf free placed =
     min (free.length - placed.length) kerf * bottom_width direction free placed

@@ -1,4 +1,4 @@
--- The ★ cases of document 01: files, and the answers that the Rust gives them. proofs/Stars shows that the definition gives the same.
+-- The ★ cases: files, and the answers that the Rust gives them. proofs/Stars shows that the definition gives the same.
 -- (Written by tools/write_tables.py.)
 use Rattle.std.specs.Prelude.{ℕ, List, [], ◌∷◌, map}
 use Rattle.model.specs.Project.{project_of}

@@ -2,47 +2,47 @@
 // src/domain, src/render and src/optimizer. What they mean together is said in specs/.
 #![tactic(auto)]
 
-#[derive(Clone, Copy)]
+#[derive(Clone, Copy, PartialEq, Eq)]
 pub enum PatternDirection {
     None,
     ParallelToWidth,
     ParallelToLength,
 }
 
-#[derive(Clone, Copy)]
+#[derive(Clone, Copy, PartialEq, Eq)]
 pub enum LayoutKind {
     Guillotine,
     Nested,
 }
 
-#[derive(Clone, Copy)]
+#[derive(Clone, Copy, PartialEq, Eq)]
 pub enum OptimizerEffort {
     Fast,
     Balanced,
     Thorough,
 }
 
-#[derive(Clone, Copy)]
+#[derive(Clone, Copy, PartialEq, Eq)]
 pub enum GuillotineRectChoice {
     Area,
     ShortSide,
     LongSide,
 }
 
-#[derive(Clone, Copy)]
+#[derive(Clone, Copy, PartialEq, Eq)]
 pub enum GuillotineSplitHeuristic {
     Horizontal,
     LongerAxis,
     MaximizeArea,
 }
 
-#[derive(Clone, Copy)]
+#[derive(Clone, Copy, PartialEq, Eq)]
 pub enum RotationPreference {
     PreferUpright,
     PreferRotated,
 }
 
-#[derive(Clone, Copy)]
+#[derive(Clone, Copy, PartialEq, Eq)]
 pub struct BaselineGuillotineHeuristic {
     pub rect_choice: GuillotineRectChoice,
     pub split: GuillotineSplitHeuristic,
@@ -50,13 +50,13 @@ pub struct BaselineGuillotineHeuristic {
 }
 
 // GuillotineSplitDirection of a split, CutOrientation of a guide's cut.
-#[derive(Clone, Copy)]
+#[derive(Clone, Copy, PartialEq, Eq)]
 pub enum Direction {
     Horizontal,
     Vertical,
 }
 
-#[derive(Clone, Copy)]
+#[derive(Clone, Copy, PartialEq, Eq)]
 pub struct Rect {
     pub x: u32,
     pub y: u32,
@@ -64,7 +64,7 @@ pub struct Rect {
     pub length: u32,
 }
 
-#[derive(Clone, Copy)]
+#[derive(Clone, Copy, PartialEq, Eq)]
 pub struct StockInstance {
     pub stock_id: u64,
     pub instance: u32,
@@ -73,7 +73,7 @@ pub struct StockInstance {
     pub pattern: PatternDirection,
 }
 
-#[derive(Clone, Copy)]
+#[derive(Clone, Copy, PartialEq, Eq)]
 pub struct CutInstance {
     pub cut_id: u64,
     pub instance: u32,
@@ -84,13 +84,13 @@ pub struct CutInstance {
 }
 
 // CutInstanceKey and StockInstanceKey: the id and the number of an instance of its record.
-#[derive(Clone, Copy)]
+#[derive(Clone, Copy, PartialEq, Eq)]
 pub struct InstanceKey {
     pub id: u64,
     pub instance: u32,
 }
 
-#[derive(Clone, Copy)]
+#[derive(Clone, Copy, PartialEq, Eq)]
 pub struct FitResult {
     pub rect: Rect,
     pub pattern: PatternDirection,

@@ -1,8 +1,9 @@
 -- The ways the entry ends, and what the definition says of each.
-use Prim.Native.Nat.{ℕ, ◌≤◌, ◌<◌}
-use mathlib.Core.Path.{◌≡◌, sym, ap, ◌∙◌, subst}
-use mathlib.Core.Logic.{◌⊎◌}
-use mathlib.Core.Bool.{true, false}
+use Prim.Native.Nat.{ℕ, ◌≤◌}
+use mathlib.Core.Path.{◌≡◌, refl, sym, ap, ◌∙◌, subst}
+use mathlib.Core.Bool.{Bool, true, false, true≢false, ◌||◌}
+use lib.Dec.{ltb}
+use borrow.Author.Tests.{ltb-false}
 use mathlib.Core.List.{List, [], ◌++◌}
 use mathlib.Core.Option.{none, some}
 use lib.ListN.{length, drop, replicate}
@@ -20,8 +21,8 @@ use Rattle.model.specs.Search.{SearchNumbers, search_numbers, heuristic_variants
 use Rattle.model.specs.Plan.{plan_words}
 use Rattle.model.specs.Answer.{plan, refused, answer, answer_with, optimized, prefilter, solution, searched}
 use Rattle.model.specs.Answer.{Answer as Answered}
-use Rattle.model.specs.Outcome.{Outcome, least_workspace, least_plan, searches, cleared, outcome}
-use Rattle.model.proofs.Memory.{small_refused, outcome_answer, refusal_untouched, plan_first, not_searched_as_found, searched_cleared}
+use Rattle.model.specs.Outcome.{Outcome, least_workspace, least_plan, searches, too_small, cleared, outcome}
+use Rattle.model.proofs.Memory.{outcome_answer, refusal_untouched, plan_first, not_searched_as_found, searched_cleared}
 use Rattle.trust.specs.Trusted.{Trusted}
 use Rattle.trust.proofs.PopulationSize.{source_within}
 use Rattle.model.specs.declared.OptimizerEffort.{OptimizerEffort}
@@ -29,7 +30,9 @@ use Rattle.seeds.specs.declared.SearchNumbers.{SearchNumbers as SearchNumbersIn}
 use Rattle.seeds.specs.Rows.{numbers_of}
 use Rattle.search.specs.Regions.{behind_slots}
 use Rattle.plan.specs.Sheets.{candidate_plan}
-use Rattle.optimizer.specs.declared.Answer.{Answer}
+use Rattle.std.specs.Prelude.{Result, Ok, Err}
+use Rattle.project.specs.declared.Refusal.{Refusal}
+use Rattle.project.specs.Refusals.{refusal_number}
 use Rattle.optimizer.specs.Promise.{number_of, number_of_answer, Ends, Promise}
 use Rattle.optimizer.proofs.Numbers.{zero_trusted}
 
@@ -45,10 +48,23 @@ promised {f} {w} {p} {w'} {p'} {n} a q u =
 
 -- ---- too little memory
 
-pub end_small : (f w p : List ℕ) → (length w < least_workspace) ⊎ (length p < least_plan) → Promise f w p 1 w p
+pub end_small : (f w p : List ℕ) → too_small w p ≡ true → Promise f w p 1 w p
+unfolding outcome
 end_small f w p h =
-    let o = small_refused f w p h in
+    let o : outcome f w p ≡ record { answer = refused 1; workspace = w; plan = p } = rw h in
     promised (ap (λ (x : Outcome). number_of_answer x.answer) (sym o)) (ap (λ (x : Outcome). x.plan) (sym o)) (ap (λ (x : Outcome). x.workspace) (sym o))
+
+-- ---- and enough of it
+
+neither : (a b : Bool) → (a || b) ≡ false → (a ≡ false) × (b ≡ false)
+neither true b e = absurd (true≢false e)
+neither false b e = (refl, e)
+
+pub enough : (w p : List ℕ) → too_small w p ≡ false → (least_workspace ≤ length w) × (least_plan ≤ length p)
+unfolding too_small
+enough w p e =
+    let both = neither (ltb (length w) least_workspace) (ltb (length p) least_plan) e in
+    (ltb-false (length w) least_workspace both.0, ltb-false (length p) least_plan both.1)
 
 module _ (f w p : List ℕ) (h : least_workspace ≤ length w) (k : least_plan ≤ length p) where
   -- a refusal, and a plan, whose words come first; the workspace afterwards is the definition's
@@ -117,10 +133,10 @@ module _ (f w p : List ℕ) (h : least_workspace ≤ length w) (k : least_plan �
       end_planned words v e u = planned words (cleared least_workspace v) (search_answer ∙ e) (same_cleared v u)
 
       -- either, as the search says
-      pub end_search : (r : Answer) (p' v : List ℕ) → Ends (searched heuristic_variants LayoutKind.Guillotine inst (search_numbers (effort_of (project_of f).effort))) r p p'
+      pub end_search : (r : Result (Unit {0}) Refusal) (p' v : List ℕ) → Ends (searched heuristic_variants LayoutKind.Guillotine inst (search_numbers (effort_of (project_of f).effort))) r p p'
           → drop least_workspace v ≡ drop least_workspace w → Promise f w p (number_of r) (cleared least_workspace v) p'
-      end_search Answer.Plan p' v e u = subst (λ (x : List ℕ). Promise f w p 0 (cleared least_workspace v) x) (sym e.ends.2) (end_planned e.ends.0 v e.ends.1 u)
-      end_search (Answer.Refused n) p' v e u = subst (λ (x : List ℕ). Promise f w p n (cleared least_workspace v) x) (sym e.ends.1) (end_refused n v e.ends.0 u)
+      end_search (Ok t) p' v e u = subst (λ (x : List ℕ). Promise f w p 0 (cleared least_workspace v) x) (sym e.ends.2) (end_planned e.ends.0 v e.ends.1 u)
+      end_search (Err r) p' v e u = subst (λ (x : List ℕ). Promise f w p (refusal_number r) (cleared least_workspace v) x) (sym e.ends.1) (end_refused (refusal_number r) v e.ends.0 u)
 
 -- ---- the search
 
@@ -166,7 +182,7 @@ behind_cleared a b e = sym (drop-drop 3904 12480 a) ∙ ap (drop 3904) e ∙ dro
 
 -- ---- equal things for each other
 
-pub ends_as : {a a' : Answered} {r : Answer} {p p' : List ℕ} → a ≡ a' → Ends a r p p' → Ends a' r p p'
+pub ends_as : {a a' : Answered} {r : Result (Unit {0}) Refusal} {p p' : List ℕ} → a ≡ a' → Ends a r p p' → Ends a' r p p'
 ends_as {r} {p} {p'} e h = subst (λ (x : Answered). Ends x r p p') e h
 
 pub searched_as : {i i' : ProblemInstance} {e e' : OptimizerEffort} → i ≡ i' → e ≡ e'

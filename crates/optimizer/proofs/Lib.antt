@@ -1,4 +1,3 @@
 pub mod Numbers
 pub mod Ends
-pub mod Clearing
 pub mod FromFile

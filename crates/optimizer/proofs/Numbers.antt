@@ -24,7 +24,7 @@ use Rattle.trust.specs.Trusted.{Trusted}
 use Rattle.trust.proofs.PlanTrusted.{trusted_outcome}
 use Rattle.optimizer.specs.Promise.{number_of_answer}
 
--- document 01's numbers
+-- the numbers of the refusals
 abbrev pub Number : ℕ → Type 0
 Number n = T (ltb 0 n && ltb n 18)
 

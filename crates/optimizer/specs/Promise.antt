@@ -1,5 +1,5 @@
 -- The entry's one promise: its answer and each lent word afterwards are the definition's, and a plan can be trusted.
-use Rattle.std.specs.Prelude.{ℕ, ◌≡◌, List, ◌++◌, length, drop}
+use Rattle.std.specs.Prelude.{ℕ, Result, Ok, Err, ◌≡◌, List, ◌++◌, length, drop}
 use Rattle.model.specs.declared.LayoutKind.{LayoutKind}
 use Rattle.model.specs.declared.OptimizerEffort.{OptimizerEffort}
 use Rattle.model.specs.Expand.{ProblemInstance}
@@ -8,27 +8,28 @@ use Rattle.model.specs.Answer.{plan, refused, searched}
 use Rattle.model.specs.Answer.{Answer as Answered}
 use Rattle.model.specs.Outcome.{least_workspace, outcome}
 use Rattle.trust.specs.Trusted.{Trusted}
-use Rattle.optimizer.specs.declared.Answer.{Answer}
+use Rattle.project.specs.declared.Refusal.{Refusal}
+use Rattle.project.specs.Refusals.{refusal_number}
 
--- document 01's number of an answer; 0 for a plan
-abbrev pub number_of : Answer → ℕ
-number_of Answer.Plan = 0
-number_of (Answer.Refused n) = n
+-- the number that an answer is told by: 0 for a plan
+abbrev pub number_of : Result (Unit {0}) Refusal → ℕ
+number_of (Ok u) = 0
+number_of (Err r) = refusal_number r
 
 abbrev pub number_of_answer : Answered → ℕ
 number_of_answer (plan words) = 0
 number_of_answer (refused n) = n
 
 -- what the search ends in: a plan's words first and the old values behind them, or a refusal and the memory as found
-abbrev pub EndsIn : Answered → Answer → (before after : List ℕ) → Type 0
-EndsIn a Answer.Plan before after = (words : List ℕ) × (a ≡ plan words) × (after ≡ words ++ drop (length words) before)
-EndsIn a (Answer.Refused n) before after = (a ≡ refused n) × (after ≡ before)
+abbrev pub EndsIn : Answered → Result (Unit {0}) Refusal → (before after : List ℕ) → Type 0
+EndsIn a (Ok u) before after = (words : List ℕ) × (a ≡ plan words) × (after ≡ words ++ drop (length words) before)
+EndsIn a (Err r) before after = (a ≡ refused (refusal_number r)) × (after ≡ before)
 
-pub record Ends (a : Answered) (r : Answer) (before after : List ℕ) : Type 0 where
+pub record Ends (a : Answered) (r : Result (Unit {0}) Refusal) (before after : List ℕ) : Type 0 where
   pub ends : EndsIn a r before after
 
 -- a search of a project's instances: how it ends, and the words of the workspace that it does not touch
-abbrev pub Searches : ProblemInstance → OptimizerEffort → Answer → (memory memory_after words words_after : List ℕ) → Type 0
+abbrev pub Searches : ProblemInstance → OptimizerEffort → Result (Unit {0}) Refusal → (memory memory_after words words_after : List ℕ) → Type 0
 Searches inst effort r memory memory_after words words_after =
     Ends (searched heuristic_variants LayoutKind.Guillotine inst (search_numbers effort)) r memory memory_after
     × (drop least_workspace words_after ≡ drop least_workspace words)
@@ -41,5 +42,5 @@ pub record Promise (file words memory : List ℕ) (number : ℕ) (words_after me
   pub plan : memory_after ≡ (outcome file words memory).plan
   -- as found, or its first 16,384 words zero and the rest as found
   pub workspace : words_after ≡ (outcome file words memory).workspace
-  -- demand 3
+  -- a plan that is answered can be trusted
   pub trusted : number ≡ 0 → Trusted file memory_after

@@ -1,4 +1,5 @@
-// The planner's entry: `optimize_with_config` from a project file to a plan or one numbered refusal, in lent memory.
+// The planner's entry: `optimize_with_config` from a project file to a plan or one numbered refusal, in lent memory. A plan is in the
+// plan memory.
 #![tactic(auto)]
 
 ghost use Rattle.std.specs.Prelude.{◌≡◌, ◌≤◌, length};
@@ -8,9 +9,8 @@ ghost use Rattle.model.specs.Project.{project_of};
 ghost use Rattle.model.specs.Refusal.{file_refusal};
 ghost use Rattle.model.specs.Expand.{expand_project};
 ghost use Rattle.model.specs.Answer.{prefilter};
-ghost use Rattle.model.specs.Outcome.{least_workspace, least_plan, cleared};
+ghost use Rattle.model.specs.Outcome.{least_workspace, least_plan, too_small, cleared};
 ghost use Rattle.rows.specs.Rows.{cut_words, cut_row};
-ghost use Rattle.refusals.specs.Answers.{refusal_number};
 ghost use Rattle.instances.specs.Tables.{Holds};
 ghost use Rattle.candidate.specs.Stands.{instance_in, Tables};
 ghost use Rattle.optimizer.specs.Promise.{number_of, Searches, Promise};
@@ -18,15 +18,7 @@ ghost use Rattle.optimizer.specs.Promise.{number_of, Searches, Promise};
 use candidate::Instance;
 use instances::CutTable;
 use model::OptimizerEffort;
-use prefilter::Feasibility;
-use refusals::{Checked, Refusal};
-
-// A plan is in the plan memory; a refusal has document 01's number.
-#[derive(Clone, Copy)]
-pub enum Answer {
-    Plan,
-    Refused(u32),
-}
+use project::Refusal;
 
 // The least lent memory, in words.
 const WORKSPACE: usize = 16_384;
@@ -36,16 +28,19 @@ const PLAN: usize = 4_500;
 // The words of every board's free rectangles, 261 for each of 64.
 const FREE: usize = 16_704;
 
+#[tactic(auto, unfolding(model::specs::Outcome::too_small))]
+fn is_too_small(workspace: &[u32], plan: &[u32]) -> bool
+    ensures { result ≡ too_small workspace.now plan.now }
+{
+    workspace.len() < WORKSPACE || plan.len() < PLAN
+}
+
 // The search leaves nothing behind.
 fn clear(workspace: &mut [u32])
     requires { least_workspace ≤ length workspace.old }
     ensures { workspace.new ≡ cleared least_workspace workspace.old }
 {
-    let mut i: usize = 0;
-    while i < WORKSPACE {
-        workspace[i] = 0;
-        i += 1;
-    }
+    workspace[..WORKSPACE].fill(0);
 }
 
 // optimize_population_pipeline past its prefilter: the winner's plan, or 17.
@@ -56,20 +51,20 @@ fn find_plan(
     cuts: &[u32],
     inst: Instance,
     effort: OptimizerEffort,
-) -> Answer
+) -> Result<(), Refusal>
     requires { Tables stock.now cuts.now inst × (least_workspace ≤ length workspace.old) × (least_plan ≤ length plan.old) × (prefilter (instance_in stock.now cuts.now inst) ≡ none) }
     ensures { Searches (instance_in stock.now cuts.now inst) effort result plan.old plan.new workspace.old workspace.new }
 {
     let mut free = [0u32; FREE];
     let rows = seeds::heuristic_variants();
     let numbers = seeds::search_numbers(effort);
-    let found = search::winner(workspace, &mut free, stock, cuts, inst, rows, numbers);
-    if found.found {
-        let c = found.candidate;
-        plan::write_plan(plan, stock, cuts, inst, c);
-        return Answer::Plan;
+    match search::winner(workspace, &mut free, stock, cuts, inst, &rows, numbers) {
+        None => Err(Refusal::NoCandidate),
+        Some(c) => {
+            plan::write_plan(plan, stock, cuts, inst, c);
+            Ok(())
+        }
     }
-    Answer::Refused(17)
 }
 
 // optimize_population_pipeline.
@@ -80,16 +75,12 @@ fn search_plan(
     cuts: &[u32],
     inst: Instance,
     effort: OptimizerEffort,
-) -> Answer
+) -> Result<(), Refusal>
     requires { Tables stock.now cuts.now inst × (least_workspace ≤ length workspace.old) × (least_plan ≤ length plan.old) }
     ensures { Searches (instance_in stock.now cuts.now inst) effort result plan.old plan.new workspace.old workspace.new }
 {
-    let feasible = prefilter::basic_feasibility_prefilter(stock, cuts, inst);
-    match feasible {
-        Feasibility::CutFitsNoStock => Answer::Refused(15),
-        Feasibility::CutAreaTooLarge => Answer::Refused(16),
-        Feasibility::Feasible => find_plan(workspace, plan, stock, cuts, inst, effort),
-    }
+    prefilter::basic_feasibility_prefilter(stock, cuts, inst)?;
+    find_plan(workspace, plan, stock, cuts, inst, effort)
 }
 
 // A project that no check refuses, with the table of its cuts.
@@ -98,7 +89,7 @@ fn optimize_cuts(
     workspace: &mut [u32],
     plan: &mut [u32],
     cut_table: CutTable,
-) -> Answer
+) -> Result<(), Refusal>
     requires { (file_refusal file.now ≡ none) × (least_workspace ≤ length workspace.old) × (least_plan ≤ length plan.old)
         × Holds cut_words cut_row (expand_project (project_of file.now)).cuts cut_table.words cut_table.count }
     ensures { Searches (expand_project (project_of file.now)) (effort_of (project_of file.now).effort) result plan.old plan.new workspace.old workspace.new }
@@ -116,7 +107,7 @@ fn optimize_cuts(
 }
 
 // A project that no check refuses.
-fn optimize_project(file: &[u8], workspace: &mut [u32], plan: &mut [u32]) -> Answer
+fn optimize_project(file: &[u8], workspace: &mut [u32], plan: &mut [u32]) -> Result<(), Refusal>
     requires { (file_refusal file.now ≡ none) × (least_workspace ≤ length workspace.old) × (least_plan ≤ length plan.old) }
     ensures { Promise file.now workspace.old plan.old (number_of result) workspace.new plan.new }
 {
@@ -124,49 +115,22 @@ fn optimize_project(file: &[u8], workspace: &mut [u32], plan: &mut [u32]) -> Ans
     if cut_table.count == 0 {
         let layout = project::layout_kind(file);
         plan::empty_plan(plan, layout);
-        return Answer::Plan;
+        return Ok(());
     }
     let answer = optimize_cuts(file, workspace, plan, cut_table);
     clear(workspace);
     answer
 }
 
-// Document 01's number of what refuses a file.
-fn refusal_number(refusal: Refusal) -> u32
-    ensures { result ≡ refusal_number refusal }
-{
-    match refusal {
-        Refusal::NotWellFormed => 2,
-        Refusal::BadSettings => 3,
-        Refusal::LargeKerf => 4,
-        Refusal::BadCodes => 5,
-        Refusal::ZeroSide => 6,
-        Refusal::LargeSide => 7,
-        Refusal::UnlimitedStock => 8,
-        Refusal::RepeatedId => 9,
-        Refusal::TooManyStockInstances => 10,
-        Refusal::ZeroQuantity => 11,
-        Refusal::TooManyCutInstances => 12,
-        Refusal::NoStock => 13,
-        Refusal::NestedLayout => 14,
-    }
-}
-
-// From any bytes, in any lent memory, to a plan or one numbered refusal.
-pub fn optimize(file: &[u8], workspace: &mut [u32], plan: &mut [u32]) -> Answer
+// From any bytes, in any lent memory, to a plan or one refusal.
+pub fn optimize(file: &[u8], workspace: &mut [u32], plan: &mut [u32]) -> Result<(), Refusal>
     ensures { Promise file.now workspace.old plan.old (number_of result) workspace.new plan.new }
 {
-    if workspace.len() < WORKSPACE {
-        return Answer::Refused(1);
+    if is_too_small(workspace, plan) {
+        return Err(Refusal::TooSmallMemory);
     }
-    if plan.len() < PLAN {
-        return Answer::Refused(1);
-    }
-    let checked = refusals::check_project(file);
-    match checked {
-        Checked::Refused(refusal) => Answer::Refused(refusal_number(refusal)),
-        Checked::Passed => optimize_project(file, workspace, plan),
-    }
+    refusals::check_project(file)?;
+    optimize_project(file, workspace, plan)
 }
 
 // The same for callers that take a number: 0 for a plan. The crate optimizer_c exports it to C and Rust.
@@ -174,7 +138,7 @@ pub fn optimizer_optimize(file: &[u8], workspace: &mut [u32], plan: &mut [u32]) 
     ensures { Promise file.now workspace.old plan.old result workspace.new plan.new }
 {
     match optimize(file, workspace, plan) {
-        Answer::Plan => 0,
-        Answer::Refused(n) => n,
+        Ok(()) => 0,
+        Err(refusal) => refusal.number(),
     }
 }

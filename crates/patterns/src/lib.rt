@@ -2,40 +2,21 @@
 #![tactic(auto)]
 
 ghost use Rattle.std.specs.Prelude.{◌≡◌};
-ghost use Rattle.model.specs.Types.{pattern_code};
-ghost use Rattle.model.specs.Fit.{same_pattern, pattern_matches, rotate_pattern, turning_matters};
+ghost use Rattle.model.specs.Fit.{pattern_matches, rotate_pattern, turning_matters};
 ghost use Rattle.patterns.specs.Orientation.{ways_to_lie};
 
 use model::{CutInstance, PatternDirection};
 
-fn pattern_code(pattern: PatternDirection) -> u32
-    ensures { result ≡ pattern_code pattern }
-{
-    match pattern {
-        PatternDirection::None => 0,
-        PatternDirection::ParallelToWidth => 1,
-        PatternDirection::ParallelToLength => 2,
-    }
-}
-
-fn same_pattern(a: PatternDirection, b: PatternDirection) -> bool
-    ensures { result ≡ same_pattern a b }
-{
-    pattern_code(a) == pattern_code(b)
-}
-
+#[tactic(auto, using(crate::proofs::Same::same_is, crate::proofs::Same::none_is), unfolding(model::specs::Fit::pattern_matches))]
 fn pattern_matches(cut_pattern: PatternDirection, stock_pattern: PatternDirection) -> bool
     ensures { result ≡ pattern_matches cut_pattern stock_pattern }
 {
-    if same_pattern(cut_pattern, PatternDirection::None) {
-        return true;
-    }
-    if same_pattern(stock_pattern, PatternDirection::None) {
-        return true;
-    }
-    same_pattern(cut_pattern, stock_pattern)
+    cut_pattern == PatternDirection::None
+        || stock_pattern == PatternDirection::None
+        || cut_pattern == stock_pattern
 }
 
+#[tactic(auto, unfolding(model::specs::Fit::rotate_pattern))]
 pub fn rotate_pattern(pattern: PatternDirection) -> PatternDirection
     ensures { result ≡ rotate_pattern pattern }
 {
@@ -47,17 +28,11 @@ pub fn rotate_pattern(pattern: PatternDirection) -> PatternDirection
 }
 
 // Whether a turned cut differs from the cut: not if it is square and of a pattern that turning leaves.
+#[tactic(auto, using(crate::proofs::Same::same_is), unfolding(model::specs::Fit::turning_matters))]
 fn turning_matters(cut: CutInstance) -> bool
     ensures { result ≡ turning_matters cut }
 {
-    if cut.width == cut.length {
-        let pattern = cut.pattern;
-        let turned = rotate_pattern(pattern);
-        if same_pattern(turned, pattern) {
-            return false;
-        }
-    }
-    true
+    cut.width != cut.length || rotate_pattern(cut.pattern) != cut.pattern
 }
 
 // The ways to lie that the patterns and the cut leave open on a board, whatever the free rectangle.
@@ -67,27 +42,21 @@ pub struct Ways {
     pub rotated: bool,
 }
 
+#[tactic(auto, unfolding(crate::specs::Orientation::ways_to_lie))]
 fn may_rotate(cut: CutInstance, stock_pattern: PatternDirection) -> bool
     ensures { result ≡ (ways_to_lie cut stock_pattern).rotated }
 {
-    if cut.can_rotate {
-        if turning_matters(cut) {
-            let pattern = cut.pattern;
-            let turned = rotate_pattern(pattern);
-            return pattern_matches(turned, stock_pattern);
-        }
-    }
-    false
+    cut.can_rotate
+        && turning_matters(cut)
+        && pattern_matches(rotate_pattern(cut.pattern), stock_pattern)
 }
 
+#[tactic(auto, unfolding(crate::specs::Orientation::ways_to_lie))]
 pub fn ways_to_lie(cut: CutInstance, stock_pattern: PatternDirection) -> Ways
     ensures { result ≡ ways_to_lie cut stock_pattern }
 {
-    let pattern = cut.pattern;
-    let upright = pattern_matches(pattern, stock_pattern);
-    let rotated = may_rotate(cut, stock_pattern);
     Ways {
-        upright: upright,
-        rotated: rotated,
+        upright: pattern_matches(cut.pattern, stock_pattern),
+        rotated: may_rotate(cut, stock_pattern),
     }
 }

@@ -1,4 +1,6 @@
 -- What a lent block comes back as is the definition's insertion, or the bare board, in all the words.
+use Rattle.std.specs.Prelude.{None, Some}
+use Rattle.std.specs.Prelude as Language
 use Prim.Native.Nat.{ℕ, ◌+◌, ◌*◌, ◌≤◌, ◌<◌}
 use native.Mathlib.Omega.{arith}
 use mathlib.Core.Path.{◌≡◌, refl, sym, ap, ◌∙◌, subst}
@@ -29,6 +31,10 @@ found kerf s i = go (best_place s i)
     go none = refl
     go (some p) = refl
 
+pub some_place : (x : Language.Option Inserted) → Language.is_some x ≡ is_some (place_in x)
+some_place None = refl
+some_place (Some t) = refl
+
 module _ (free : List ℕ) (board : ℕ) (known : board < 64) (room : 261 * 64 ≤ length free) (size : ℕ) (whole : size ≡ 261) where
   fits : 261 * board + 261 ≤ length free
   fits = omega arith
@@ -43,7 +49,7 @@ module _ (free : List ℕ) (board : ℕ) (known : board < 64) (room : 261 * 64 �
   pub lent_insertable : (kerf : ℕ) → Insertable kerf (block_of free board) → Insertable kerf lent
   lent_insertable kerf h = subst (Insertable kerf) (sym (lent_block free board fits size whole)) h
 
-  pub inserts_on_board : (kerf : ℕ) (pattern : PatternDirection) (cut : CutInstance) (h : BaselineGuillotineHeuristic) (v : List ℕ) (x : Inserted) (r : Bool) → r ≡ is_some (place_in x)
+  pub inserts_on_board : (kerf : ℕ) (pattern : PatternDirection) (cut : CutInstance) (h : BaselineGuillotineHeuristic) (v : List ℕ) (x : Language.Option Inserted) (r : Bool) → r ≡ is_some (place_in x)
       → Inserts kerf pattern cut h lent v x → InsertsOnBoard kerf pattern (record { cut = cut; heuristic = h }) board free (back v) r
   inserts_on_board kerf pattern cut h v x r e f = λ s shows.
       let i : Insertion = record { cut = cut; heuristic = h } in

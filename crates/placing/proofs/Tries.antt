@@ -8,7 +8,7 @@ use mathlib.Core.Option.{Option, none, some}
 use lib.Dec.{leb}
 use lib.ListN.{length, get_or, take, drop, length-drop, get_or-map, take-append-drop}
 use lib.Seq.{take-suc, take-take, take_all, length-take-le, get_or-take, get_or-drop}
-use borrow.Author.Tests.{leb-true, leb-false}
+use borrow.Author.Tests.{le-leb, lt-leb, leb-true, leb-false}
 use Rattle.lists.specs.Base.{is_some}
 use Rattle.lists.proofs.Perm.{All, all_map, all_both, all_append}
 use Rattle.lists.proofs.Sums.{length-map}
@@ -36,6 +36,13 @@ all_same free (b ∷ bs) = (refl, all_same free bs)
 abbrev shown : List ℕ → StockInstance → GuillotineSheet
 shown words stock = record { stock = stock; free_rects = rects_in words; placed_pieces = []; slicing_tree = none }
 
+-- the words with the board made bare where it is no sheet's yet, and as they were where it is
+pub opened_bare : (sheets j : ℕ) (free opened : List ℕ) (board : ℕ) (s : StockInstance) → sheets ≤ j → opened ≡ with_bin free board (new_sheet s) → opened ≡ opened_if (leb sheets j) free board s
+opened_bare sheets j free opened board s h e = e ∙ ap (λ (q : Bool). opened_if q free board s) (sym (le-leb sheets j h))
+
+pub opened_sheet : (sheets j : ℕ) (free opened : List ℕ) (board : ℕ) (s : StockInstance) → j < sheets → opened ≡ free → opened ≡ opened_if (leb sheets j) free board s
+opened_sheet sheets j free opened board s h e = e ∙ ap (λ (q : Bool). opened_if q free board s) (sym (lt-leb sheets j h))
+
 module _ (kerf : ℕ) (i : Insertion) (stock boards : List ℕ) (count sheets : ℕ) (before : List ℕ) where
   -- the first j boards refuse, and the sheets' blocks are as they were
   pub record Tried (free : List ℕ) (j : ℕ) : Type 0 where
@@ -53,14 +60,14 @@ module _ (kerf : ℕ) (i : Insertion) (stock boards : List ℕ) (count sheets : 
     length_boards = length-take-le count boards ok.listed
 
     -- past the last board
-    pub tried_all : (free : List ℕ) (j : ℕ) → Tried free j → count ≤ j → TriesBoards kerf i stock boards count sheets before free j
+    pub tried_all : (free : List ℕ) (j : ℕ) → Tried free j → count ≤ j → TriesBoards kerf i stock boards count sheets before free count
     tried_all free j t past =
         record {
           first = λ bin h.
               let bins : List GuillotineSheet = map bin (take count boards) in
               let size : length bins ≡ count = length-map bin (take count boards) ∙ length_boards in
               let all : All (Refuses kerf i) bins = subst (All (Refuses kerf i)) (take_all j bins (omega arith)) (t.refused bin h) in
-              record { index = (let e : j ≡ count = omega (arith, t.inside) in e) ∙ sym size ∙ sym (first_none kerf i bins all); taken = λ u k. absurd (omega arith) };
+              record { index = sym size ∙ sym (first_none kerf i bins all); taken = λ u k. absurd (omega arith) };
           others = all_map (λ b. block_of free b ≡ block_of before b) _ (λ b e k. e) (take sheets boards) t.kept;
           behind = t.behind;
         }
@@ -257,11 +264,11 @@ module _ (kerf : ℕ) (i : Insertion) (stock boards : List ℕ) (count sheets : 
     pub record Turn (free : List ℕ) (j : ℕ) : Type 0 where
       pub known : get_or boards j 0 < 64
       pub row : stock_words * get_or boards j 0 + stock_words ≤ length stock
-      pub fillable : (s : StockInstance) → s ≡ stock_at stock (get_or boards j 0) → Fillable kerf (opened_if (leb sheets j) free (get_or boards j 0) s) (get_or boards j 0)
-      pub next : (s : StockInstance) → s ≡ stock_at stock (get_or boards j 0) → (after : List ℕ) (r : Bool) → length after ≡ length free
-          → InsertsOnBoard kerf s.pattern i (get_or boards j 0) (opened_if (leb sheets j) free (get_or boards j 0) s) after r → r ≡ false → Tried after (j + 1)
-      pub found : (s : StockInstance) → s ≡ stock_at stock (get_or boards j 0) → (after : List ℕ) (r : Bool) → length after ≡ length free
-          → InsertsOnBoard kerf s.pattern i (get_or boards j 0) (opened_if (leb sheets j) free (get_or boards j 0) s) after r → r ≡ true
+      pub fillable : (s : StockInstance) → s ≡ stock_at stock (get_or boards j 0) → (bare : List ℕ) → bare ≡ opened_if (leb sheets j) free (get_or boards j 0) s → Fillable kerf bare (get_or boards j 0)
+      pub next : (s : StockInstance) → s ≡ stock_at stock (get_or boards j 0) → (bare : List ℕ) → bare ≡ opened_if (leb sheets j) free (get_or boards j 0) s → (after : List ℕ) (r : Bool) → length after ≡ length free
+          → InsertsOnBoard kerf s.pattern i (get_or boards j 0) bare after r → r ≡ false → Tried after (j + 1)
+      pub found : (s : StockInstance) → s ≡ stock_at stock (get_or boards j 0) → (bare : List ℕ) → bare ≡ opened_if (leb sheets j) free (get_or boards j 0) s → (after : List ℕ) (r : Bool) → length after ≡ length free
+          → InsertsOnBoard kerf s.pattern i (get_or boards j 0) bare after r → r ≡ true
           → TriesBoards kerf i stock boards count sheets before after j
 
     pub turn : (free : List ℕ) (j : ℕ) → Tried free j → j < count → Turn free j
@@ -271,7 +278,14 @@ module _ (kerf : ℕ) (i : Insertion) (stock boards : List ℕ) (count sheets : 
         record {
           known = omega (arith, known, ok.few);
           row = omega (arith, known, ok.table);
-          fillable = λ s e. rw e (opened_ok free j t here).fillable;
-          next = λ s e after r k f. tried_next free j t here after r k (subst (λ (q : StockInstance). InsertsOnBoard kerf q.pattern i b (opened_if (leb sheets j) free b q) after r) e f);
-          found = λ s e after r k f. tried_found free j t here after r k (subst (λ (q : StockInstance). InsertsOnBoard kerf q.pattern i b (opened_if (leb sheets j) free b q) after r) e f);
+          fillable = λ s e bare o. subst (λ (l : List ℕ). Fillable kerf l b) (sym o) (rw e (opened_ok free j t here).fillable);
+          next = λ s e bare o after r k f. tried_next free j t here after r k (into s e bare o after r f);
+          found = λ s e bare o after r k f. tried_found free j t here after r k (into s e bare o after r f);
         }
+      where
+        into : (s : StockInstance) → s ≡ stock_at stock (get_or boards j 0) → (bare : List ℕ) → bare ≡ opened_if (leb sheets j) free (get_or boards j 0) s → (after : List ℕ) (r : Bool)
+            → InsertsOnBoard kerf s.pattern i (get_or boards j 0) bare after r
+            → InsertsOnBoard kerf (stock_at stock (get_or boards j 0)).pattern i (get_or boards j 0) (opened_if (leb sheets j) free (get_or boards j 0) (stock_at stock (get_or boards j 0))) after r
+        into s e bare o after r f =
+            subst (λ (q : StockInstance). InsertsOnBoard kerf q.pattern i (get_or boards j 0) (opened_if (leb sheets j) free (get_or boards j 0) q) after r) e
+            (subst (λ (l : List ℕ). InsertsOnBoard kerf s.pattern i (get_or boards j 0) l after r) o f)

@@ -11,12 +11,11 @@ ghost use Rattle.rows.specs.Rows.{cut_words, stock_at, cut_at};
 ghost use Rattle.candidate.specs.Entries.{board_of, cut_of, row_of};
 ghost use Rattle.candidate.specs.Stands.{instance_in, Tables, Stands};
 ghost use Rattle.placing.specs.Blocks.{with_bin, Shown};
-ghost use Rattle.placing.specs.Fitting.{Fillable, InsertsOnBoard, opened_if, Boards, TriesBoards};
+ghost use Rattle.placing.specs.Fitting.{Fillable, InsertsOnBoard, Boards, TriesBoards};
 ghost use Rattle.placing.specs.Placing.{Next, PlacesCut, PlacesCuts, Reinserts};
 ghost use Rattle.placing.specs.Rebuilding.{Listed, OpensBoards, Makable, InsertsAll, Rebuildable, Rebuilds};
 
 use candidate::{Candidate, Instance};
-use guillotine::Inserted;
 use model::{BaselineGuillotineHeuristic, CutInstance, StockInstance};
 
 // The words of a board's block.
@@ -39,15 +38,7 @@ fn insert_on_board(
     let at = BLOCK * board;
     let end = at + BLOCK;
     let inserted = guillotine::try_insert(&mut free[at..end], kerf_width, pattern, cut, h);
-    match inserted {
-        Inserted::Nothing => false,
-        Inserted::At {
-            index: _,
-            free_rect: _,
-            fit: _,
-            merged: _,
-        } => true,
-    }
+    inserted.is_some()
 }
 
 fn open_board(free: &mut [u32], stock: StockInstance, board: usize)
@@ -59,29 +50,10 @@ fn open_board(free: &mut [u32], stock: StockInstance, board: usize)
     rect_words::new_sheet(&mut free[at..end], stock.width, stock.length)
 }
 
-// A board that is no sheet's yet is made bare before it is tried.
-fn try_board(
-    free: &mut [u32],
-    kerf_width: u32,
-    stock: StockInstance,
-    board: usize,
-    bare: bool,
-    cut: CutInstance,
-    h: BaselineGuillotineHeuristic,
-) -> bool
-    requires { (board < 64) × (261 * 64 ≤ length free.old) × Fillable kerf_width (opened_if bare free.old board stock) board }
-    ensures { InsertsOnBoard kerf_width stock.pattern (record { cut = cut; heuristic = h }) board (opened_if bare free.old board stock) free.new result }
-{
-    if bare {
-        open_board(free, stock, board);
-        return insert_on_board(free, kerf_width, stock, board, cut, h);
-    }
-    insert_on_board(free, kerf_width, stock, board, cut, h)
-}
-
 // ---- placing a cut
 
 // The first of the boards that takes the cut, the sheets' before the available ones; past the last board, if none does.
+// A board that is no sheet's yet is made bare before it is tried.
 fn first_fit(
     free: &mut [u32],
     stock: &[u32],
@@ -94,16 +66,17 @@ fn first_fit(
     requires { (261 * 64 ≤ length free.old) × Boards inst.kerf_width stock.now boards.now inst.stock sheets × All (Fillable inst.kerf_width free.old) (take sheets boards.now) }
     ensures { TriesBoards inst.kerf_width (record { cut = cut; heuristic = h }) stock.now boards.now inst.stock sheets free.old free.new result }
 {
-    let mut j: usize = 0;
-    while j < inst.stock {
+    for j in 0..inst.stock {
         let board = boards[j] as usize;
         let s = rows::stock_at(stock, board);
-        if try_board(free, inst.kerf_width, s, board, sheets <= j, cut, h) {
+        if sheets <= j {
+            open_board(free, s, board);
+        }
+        if insert_on_board(free, inst.kerf_width, s, board, cut, h) {
             return j;
         }
-        j += 1;
     }
-    j
+    inst.stock
 }
 
 fn place_cut_first_fit(
@@ -137,10 +110,8 @@ pub fn place_cuts(
     ensures { PlacesCuts (instance_in stock.now cuts.now inst) h c order.now free.old free.new result }
 {
     let mut after = c;
-    let mut i: usize = 0;
-    while i < order.len() {
-        after = place_cut_first_fit(free, stock, cuts, inst, after, order[i], h);
-        i += 1;
+    for cut in order {
+        after = place_cut_first_fit(free, stock, cuts, inst, after, *cut, h);
     }
     after
 }
@@ -156,11 +127,17 @@ pub fn reinsert_unused_first_fit(
     requires { Tables stock.now cuts.now inst × Stands (instance_in stock.now cuts.now inst) [] c × Shown (instance_in stock.now cuts.now inst) free.old c }
     ensures { Reinserts (instance_in stock.now cuts.now inst) h c free.old free.new result }
 {
-    let unused = c.unused;
-    let count = c.unused_count;
     let mut bare = c;
     bare.unused_count = 0;
-    place_cuts(free, stock, cuts, inst, bare, &unused[..count], h)
+    place_cuts(
+        free,
+        stock,
+        cuts,
+        inst,
+        bare,
+        &c.unused[..c.unused_count],
+        h,
+    )
 }
 
 // ---- the sheets of a candidate, from its insertions
@@ -169,12 +146,10 @@ fn open_boards(free: &mut [u32], stock: &[u32], boards: &[u32])
     requires { (261 * 64 ≤ length free.old) × All (Listed stock.now) boards.now }
     ensures { OpensBoards stock.now boards.now free.old free.new }
 {
-    let mut k: usize = 0;
-    while k < boards.len() {
-        let board = boards[k] as usize;
+    for board in boards {
+        let board = *board as usize;
         let s = rows::stock_at(stock, board);
         open_board(free, s, board);
-        k += 1;
     }
 }
 
@@ -201,12 +176,10 @@ fn insert_all(
     requires { Tables stock.now cuts.now inst × Makable (instance_in stock.now cuts.now inst) free.old insertions.now }
     ensures { InsertsAll (instance_in stock.now cuts.now inst) insertions.now free.old free.new result }
 {
-    let mut i: usize = 0;
-    while i < insertions.len() {
-        if !insert_again(free, stock, cuts, inst.kerf_width, insertions[i]) {
+    for word in insertions {
+        if !insert_again(free, stock, cuts, inst.kerf_width, *word) {
             return false;
         }
-        i += 1;
     }
     true
 }

@@ -12,9 +12,10 @@ use Rattle.lists.proofs.Sums.{length-map, map_append}
 use Rattle.lists.proofs.Maps.{concat_map_append}
 use Rattle.lists.proofs.Parts.{length_patch, patch_nil, patch_append}
 use Rattle.trust.proofs.RoundTrip.{contents_length, contents_append}
-use Rattle.model.specs.Types.{stock_area}
-use Rattle.model.specs.Sheet.{GuillotineSheet, placed_area}
+use Rattle.model.specs.Sheet.{GuillotineSheet}
 use Rattle.model.specs.Plan.{sheet_words, contents_from}
+use Rattle.fitness.specs.declared.SheetAreas.{SheetAreas}
+use Rattle.fitness.specs.Areas.{areas_of}
 use Rattle.sheet_plan.specs.declared.Body.{Body}
 use Rattle.sheet_plan.specs.Replaying.{WritesSheet}
 use Rattle.plan.specs.Sheets.{bodies_of, WritesFrom}
@@ -35,30 +36,29 @@ module _ (sheets : List GuillotineSheet) (s : GuillotineSheet) where
   contents_more start = ap (contents_from start) (map_append sheet_words sheets (s ∷ [])) ∙ contents_append start (map sheet_words sheets) (sheet_words s ∷ [])
 
 -- a number noted behind the others
-noted : (f : GuillotineSheet → ℕ) (sheets : List GuillotineSheet) (s : GuillotineSheet) (l : List ℕ) (v : ℕ) → length sheets < length l → v ≡ f s
+noted : {A : Type 0} (f : GuillotineSheet → A) (sheets : List GuillotineSheet) (s : GuillotineSheet) (l : List A) (v : A) → length sheets < length l → v ≡ f s
     → take (length sheets) l ≡ map f sheets → take (length (sheets ++ (s ∷ []))) (set l (length sheets) v) ≡ map f (sheets ++ (s ∷ []))
-noted f sheets s l v h e k =
+noted {A} f sheets s l v h e k =
     let more : length (sheets ++ (s ∷ [])) ≡ suc (length sheets) = length-append sheets (s ∷ []) ∙ add-one (length sheets) in
     ap (λ (m : ℕ). take m (set l (length sheets) v)) more
     ∙ take-suc-set l (length sheets) v h
-    ∙ ap₂ (λ (r : List ℕ) (x : ℕ). r ++ (x ∷ [])) k e
+    ∙ ap₂ (λ (r : List A) (x : A). r ++ (x ∷ [])) k e
     ∙ sym (map_append f sheets (s ∷ []))
 
 -- ---- the turns of the loop
 
 module _ (start : ℕ) (before : List ℕ) where
-  pub writes_none : (placed areas : List ℕ) → WritesFrom start [] before before start placed areas
+  pub writes_none : (areas : List SheetAreas) → WritesFrom start [] before before start areas
   unfolding contents_from concat_map
-  writes_none placed areas =
+  writes_none areas =
       record {
         words = patch_nil before 4 ∙ patch_nil (patch before 4 []) start;
         ends = omega arith;
-        pieces = refl;
-        boards = refl;
+        noted = refl;
       }
 
-  module _ (sheets : List GuillotineSheet) (s : GuillotineSheet) (plan plan₁ : List ℕ) (end : ℕ) (placed areas : List ℕ) (b : Body)
-      (so : WritesFrom start sheets before plan end placed areas) (body : WritesSheet s end plan plan₁ b)
+  module _ (sheets : List GuillotineSheet) (s : GuillotineSheet) (plan plan₁ : List ℕ) (end : ℕ) (areas : List SheetAreas) (b : Body)
+      (so : WritesFrom start sheets before plan end areas) (body : WritesSheet s end plan plan₁ b)
       (room : 4 + 2 * length sheets + 2 ≤ start) (fits : b.end ≤ length before) where
     abbrev entries : List ℕ
     entries = contents_from start (map sheet_words sheets)
@@ -79,9 +79,9 @@ module _ (start : ℕ) (before : List ℕ) where
         ∙ patch_append (patch before 4 entries) start (bodies_of sheets) (sheet_words s) end so.ends (omega (arith, with_entries, reach))
         ∙ ap (patch (patch before 4 entries) start) (sym (bodies_more sheets s))
 
-    pub writes_more : (plan₂ : List ℕ) → plan₂ ≡ patch plan₁ (4 + 2 * length sheets) (end ∷ (b.end - end) ∷ []) → length sheets < length placed → length sheets < length areas
-        → WritesFrom start (sheets ++ (s ∷ [])) before plan₂ b.end (set placed (length sheets) b.placed) (set areas (length sheets) b.area)
-    writes_more plan₂ e p a =
+    pub writes_more : (plan₂ : List ℕ) → plan₂ ≡ patch plan₁ (4 + 2 * length sheets) (end ∷ (b.end - end) ∷ []) → length sheets < length areas
+        → WritesFrom start (sheets ++ (s ∷ [])) before plan₂ b.end (set areas (length sheets) b.areas)
+    writes_more plan₂ e a =
         let entry : List ℕ = end ∷ (b.end - end) ∷ [] in
         let size : b.end - end ≡ length (sheet_words s) = omega (arith, body.end) in
         let bodies : length (bodies_of (sheets ++ (s ∷ []))) ≡ length (bodies_of sheets) + length (sheet_words s) = ap length (bodies_more sheets s) ∙ length-append (bodies_of sheets) (sheet_words s) in
@@ -96,6 +96,5 @@ module _ (start : ℕ) (before : List ℕ) where
               ∙ patch_swap (patch before 4 entries) start (4 + 2 * length sheets) (bodies_of (sheets ++ (s ∷ []))) entry room (omega (arith, with_entries, reach))
               ∙ ap (λ (l : List ℕ). patch l start (bodies_of (sheets ++ (s ∷ [])))) (patch_append before 4 entries entry (4 + 2 * length sheets) at (omega (arith, entries_length, reach)) ∙ ap (patch before 4) same);
           ends = omega (arith, body.end, so.ends);
-          pieces = noted placed_area sheets s placed b.placed p body.placed so.pieces;
-          boards = noted (λ t. stock_area t.stock) sheets s areas b.area a body.area so.boards;
+          noted = noted areas_of sheets s areas b.areas a body.areas so.noted;
         }

@@ -6,7 +6,6 @@ use mathlib.Core.List.{List, [], ◌∷◌, ◌++◌, map}
 use lib.ListN.{length, get_or, take, length-take}
 use lib.Seq.{get_or-take}
 use lib.Ieee.{Float}
-use Rattle.lists.specs.Base.{sum}
 use Rattle.lists.proofs.Perm.{All, perm_sym, all_left, all_perm, all_map}
 use Rattle.lists.proofs.Sums.{length-map}
 use Rattle.lists.proofs.Every.{all_get}
@@ -20,7 +19,7 @@ use Rattle.trust.proofs.Bounded.{placed_most}
 use Rattle.trust.proofs.CandidateSize.{candidate_counts}
 use Rattle.trust.proofs.Proper.{SheetProper}
 use Rattle.trust.proofs.PlanSize.{counted, plan_most}
-use Rattle.fitness.specs.Areas.{Inside}
+use Rattle.fitness.specs.Areas.{areas_of, board_areas, Inside}
 use Rattle.fitness.proofs.Sheets.{board_area, inside_areas, used_stock_area_areas}
 use Rattle.candidate.specs.declared.Candidate.{Candidate as Words}
 use Rattle.candidate.specs.Entries.{cut_of}
@@ -72,10 +71,10 @@ module _ (inst : ProblemInstance) (r : Ranged inst) (k : Words) (st : Stands ins
       let c = candidate_counts inst r [] (candidate_in inst k) st.proper in
       omega (arith, plan_most layout f bins (counted inst.kerf_width bins st.proper.kept.sheets), c.pieces, c.sheets, r.few_panels)
 
-  pub inside : Inside (map placed_area bins) (map board_area bins)
+  pub inside : Inside (map areas_of bins)
   inside =
       inside_areas bins
       (all_map (SheetProper inst.kerf_width) (λ b. placed_area b ≤ board_area b) (λ b h. placed_most inst.kerf_width b h.bounded.layout) bins st.proper.kept.sheets)
 
-  pub areas_most : sum (map board_area bins) ≤ 2 ^ 53
+  pub areas_most : board_areas (map areas_of bins) ≤ 2 ^ 53
   areas_most = omega (arith, (candidate_counts inst r [] (candidate_in inst k) st.proper).area, used_stock_area_areas bins)

@@ -1,7 +1,7 @@
 -- The plan of its first four words, its contents and its bodies.
 use Prim.Native.Nat.{ℕ, ◌+◌, ◌*◌, ◌/◌, ◌%◌, ◌^◌, ◌≤◌}
 use native.Mathlib.Omega.{arith}
-use mathlib.Core.Path.{◌≡◌, refl, sym, ap, ap₂, ◌∙◌}
+use mathlib.Core.Path.{◌≡◌, refl, sym, ap, ◌∙◌}
 use mathlib.Core.List.{List, [], ◌∷◌, ◌++◌, map}
 use mathlib.Core.Option.{get_or}
 use lib.ListN.{length, take, length-append}
@@ -17,6 +17,7 @@ use Rattle.model.specs.Fitness.{fitness, positive_zero, one}
 use Rattle.model.specs.Plan.{sheet_words, contents_from, plan_words}
 use Rattle.trust.proofs.PlanSize.{body_words, plan_length}
 use Rattle.trust.proofs.RoundTrip.{contents_length}
+use Rattle.fitness.specs.declared.SheetAreas.{SheetAreas}
 use Rattle.fitness.specs.Areas.{fitness_of}
 use Rattle.fitness.proofs.Sheets.{fitness_areas}
 use Rattle.plan.specs.Sheets.{Plans, bodies_of, WritesFrom}
@@ -24,10 +25,10 @@ use Rattle.plan.proofs.Swaps.{patch_first}
 
 -- ---- fitness by the areas noted
 
-pub noted_fitness : (sheets : List GuillotineSheet) (start end : ℕ) (before after placed areas : List ℕ) (n : ℕ) → n ≡ length sheets → WritesFrom start sheets before after end placed areas
-    → get_or (fitness_of (take n placed) (take n areas)) positive_zero ≡ get_or (fitness sheets) positive_zero
-noted_fitness sheets start end before after placed areas n e so =
-    ap₂ (λ (p a : List ℕ). get_or (fitness_of p a) positive_zero) (ap (λ (m : ℕ). take m placed) e ∙ so.pieces) (ap (λ (m : ℕ). take m areas) e ∙ so.boards)
+pub noted_fitness : (sheets : List GuillotineSheet) (start end : ℕ) (before after : List ℕ) (areas : List SheetAreas) (n : ℕ) → n ≡ length sheets → WritesFrom start sheets before after end areas
+    → get_or (fitness_of (take n areas)) positive_zero ≡ get_or (fitness sheets) positive_zero
+noted_fitness sheets start end before after areas n e so =
+    ap (λ (l : List SheetAreas). get_or (fitness_of l) positive_zero) (ap (λ (m : ℕ). take m areas) e ∙ so.noted)
     ∙ ap (λ o. get_or o positive_zero) (sym (fitness_areas sheets))
 
 -- ---- the words
@@ -46,11 +47,11 @@ module _ (layout : LayoutKind) (f : Float) (sheets : List GuillotineSheet) where
   named : (n bits low high : ℕ) → n ≡ length sheets → bits ≡ to_bits binary64 f → low ≡ bits % 2 ^ 32 → high ≡ bits / 2 ^ 32 → n ∷ low ∷ high ∷ layout_code layout ∷ [] ≡ head
   named n bits low high count e l h = rw (l, h, e, count)
 
-  pub written : (before plan plan₁ : List ℕ) (end : ℕ) (placed areas : List ℕ) (n bits low high : ℕ) → WritesFrom (4 + 2 * length sheets) sheets before plan end placed areas
+  pub written : (before plan plan₁ : List ℕ) (end : ℕ) (areas : List SheetAreas) (n bits low high : ℕ) → WritesFrom (4 + 2 * length sheets) sheets before plan end areas
       → n ≡ length sheets → bits ≡ to_bits binary64 f → low ≡ bits % 2 ^ 32 → high ≡ bits / 2 ^ 32 → plan₁ ≡ patch plan 0 (n ∷ low ∷ high ∷ layout_code layout ∷ [])
       → length (plan_words layout f sheets) ≤ length before → Plans (plan_words layout f sheets) before plan₁ end
   unfolding body_words
-  written before plan plan₁ end placed areas n bits low high so count is-bits is-low is-high e room =
+  written before plan plan₁ end areas n bits low high so count is-bits is-low is-high e room =
       let size : length entries ≡ 2 * length sheets = omega (arith, contents_length (4 + 2 * length sheets) (map sheet_words sheets), length-map sheet_words sheets) in
       let total : length (plan_words layout f sheets) ≡ 4 + 2 * length sheets + length (bodies_of sheets) = plan_length layout f sheets in
       let parts : length (entries ++ bodies_of sheets) ≡ length entries + length (bodies_of sheets) = length-append entries (bodies_of sheets) in

@@ -4,11 +4,12 @@ use Rattle.std.proofs.Math.Option.{get_or}
 use Rattle.lists.specs.Base.{concat_map}
 use Rattle.lists.specs.Parts.{patch}
 use Rattle.model.specs.declared.LayoutKind.{LayoutKind}
-use Rattle.model.specs.Types.{stock_area}
-use Rattle.model.specs.Sheet.{GuillotineSheet, placed_area}
+use Rattle.model.specs.Sheet.{GuillotineSheet}
 use Rattle.model.specs.Fitness.{fitness, positive_zero}
 use Rattle.model.specs.Candidate.{Candidate}
 use Rattle.model.specs.Plan.{sheet_words, contents_from, plan_words}
+use Rattle.fitness.specs.declared.SheetAreas.{SheetAreas}
+use Rattle.fitness.specs.Areas.{areas_of}
 use Rattle.plan.specs.declared.Bodies.{Bodies}
 
 -- a plan's words first, the words behind them as found; the count of the plan's
@@ -27,12 +28,11 @@ abbrev pub bodies_of : List GuillotineSheet → List ℕ
 bodies_of sheets = concat_map (λ b. b) (map sheet_words sheets)
 
 -- entries from word 4 on and bodies from a start on, and the areas that fitness needs
-pub record WritesFrom (start : ℕ) (sheets : List GuillotineSheet) (before after : List ℕ) (end : ℕ) (placed areas : List ℕ) : Type 0 where
+pub record WritesFrom (start : ℕ) (sheets : List GuillotineSheet) (before after : List ℕ) (end : ℕ) (areas : List SheetAreas) : Type 0 where
   pub words : after ≡ patch (patch before 4 (contents_from start (map sheet_words sheets))) start (bodies_of sheets)
   pub ends : end ≡ start + length (bodies_of sheets)
-  pub pieces : take (length sheets) placed ≡ map placed_area sheets
-  pub boards : take (length sheets) areas ≡ map (λ s. stock_area s.stock) sheets
+  pub noted : take (length sheets) areas ≡ map areas_of sheets
 
 -- of all sheets: the bodies start behind the contents
 abbrev pub WritesSheets : List GuillotineSheet → (before after : List ℕ) → Bodies → Type 0
-WritesSheets sheets before after b = WritesFrom (4 + 2 * length sheets) sheets before after b.end b.placed b.areas
+WritesSheets sheets before after b = WritesFrom (4 + 2 * length sheets) sheets before after b.end b.areas

@@ -2,23 +2,22 @@
 #![tactic(auto)]
 
 ghost use Rattle.std.specs.Prelude.{◌≡◌, [], ◌≤◌, length};
-ghost use Rattle.model.specs.Types.{layout_code};
 ghost use Rattle.model.specs.Fitness.{one};
 ghost use Rattle.model.specs.Plan.{plan_words, sheet_part};
 ghost use Rattle.candidate.specs.Stands.{instance_in, Tables, Stands, candidate_in};
 ghost use Rattle.plan.specs.Sheets.{Plans, candidate_plan, WritesSheets};
 
 use candidate::{Candidate, Instance};
+use fitness::SheetAreas;
 use model::LayoutKind;
 
 // ---- writing
 
-// The sheets' bodies: where the last one ends, and of each sheet the placed area and the board's area.
+// The sheets' bodies: where the last one ends, and the areas of each sheet.
 #[derive(Drop)]
 pub struct Bodies {
     pub end: usize,
-    pub placed: [u64; 64],
-    pub areas: [u64; 64],
+    pub areas: [SheetAreas; 64],
 }
 
 // The contents and the bodies, behind the plan's four first words.
@@ -26,35 +25,20 @@ fn write_sheets(plan: &mut [u32], stock: &[u32], cuts: &[u32], n: Instance, c: C
     requires { Tables stock.now cuts.now n × Stands (instance_in stock.now cuts.now n) [] c × (4500 ≤ length plan.old) }
     ensures { WritesSheets (candidate_in (instance_in stock.now cuts.now n) c).bins plan.old plan.new result }
 {
-    let insertions = c.insertions;
-    let count = c.placed;
-    let sheets = c.sheets;
-    let mut placed = [0u64; 64];
-    let mut areas = [0u64; 64];
-    let mut at = 4 + 2 * sheets;
-    let mut j: usize = 0;
-    while j < sheets {
-        let body = sheet_plan::write_sheet(
-            plan,
-            at,
-            stock,
-            cuts,
-            n,
-            &insertions[..count],
-            c.boards[j],
-        );
+    let insertions = &c.insertions[..c.placed];
+    let mut areas = [SheetAreas {
+        placed: 0,
+        board: 0,
+    }; 64];
+    let mut at = 4 + 2 * c.sheets;
+    for j in 0..c.sheets {
+        let body = sheet_plan::write_sheet(plan, at, stock, cuts, n, insertions, c.boards[j]);
         let end = body.end;
-        copying::put_two(plan, 4 + 2 * j, at as u32, (end - at) as u32);
-        placed[j] = body.placed;
-        areas[j] = body.area;
+        copying::put_words(plan, 4 + 2 * j, &[at as u32, (end - at) as u32]);
+        areas[j] = body.areas;
         at = end;
-        j += 1;
     }
-    Bodies {
-        end: at,
-        placed: placed,
-        areas: areas,
-    }
+    Bodies { end: at, areas }
 }
 
 // into_solution of a candidate: the plan's words from the first on, all behind them as found. The answer is how many they are.
@@ -64,27 +48,18 @@ pub fn write_plan(plan: &mut [u32], stock: &[u32], cuts: &[u32], n: Instance, c:
 {
     let sheets = c.sheets;
     let bodies = write_sheets(plan, stock, cuts, n, c);
-    let placed = bodies.placed;
-    let areas = bodies.areas;
-    let bits = fitness::fitness_bits(&placed, &areas, sheets);
-    copying::put_four(
+    let bits = fitness::fitness_bits(&bodies.areas[..sheets]);
+    copying::put_words(
         plan,
         0,
-        sheets as u32,
-        plan_words::low(bits),
-        plan_words::high(bits),
-        0,
+        &[
+            sheets as u32,
+            numbers::low_word(bits),
+            numbers::high_word(bits),
+            0,
+        ],
     );
     bodies.end
-}
-
-fn layout_code(layout: LayoutKind) -> u32
-    ensures { result ≡ layout_code layout }
-{
-    match layout {
-        LayoutKind::Guillotine => 0,
-        LayoutKind::Nested => 1,
-    }
 }
 
 // The plan of no sheets, with fitness 1.0.
@@ -92,8 +67,7 @@ pub fn empty_plan(plan: &mut [u32], layout: LayoutKind) -> usize
     requires { 4500 ≤ length plan.old }
     ensures { Plans (plan_words layout one []) plan.old plan.new result }
 {
-    let code = layout_code(layout);
-    copying::put_four(plan, 0, 0, 0, 0x3FF0_0000, code);
+    copying::put_words(plan, 0, &[0, 0, 0x3FF0_0000, layout as u32]);
     4
 }
 

@@ -14,8 +14,7 @@ use Rattle.trust.specs.Words.{word, rows, key_at, rect_at, piece_in, waste_in, n
 use Rattle.append.specs.Ascii.{ascii}
 use Rattle.append.specs.Numerals.{hex_of}
 use Rattle.plan_text.specs.Text.{field, line, key_fields, first_line, piece_line, waste_line, node_line, sheet_text, sheet_texts}
-use Rattle.plan_text.specs.Rows.{field_at, id_at, piece_at, waste_at, node_at, row_at, sheet_at}
-use Rattle.plan_text.specs.declared.Part.{Part}
+use Rattle.plan_text.specs.Rows.{field_at, id_at, piece_at, waste_at, node_at, sheet_at}
 use borrow.Author.Tests.{eq-eqb, ne_eqb}
 
 -- a word of a row is a word of the body
@@ -114,12 +113,12 @@ guide_line body =
 
 pub sheet_text_lem : (body : List ℕ) (pieces waste nodes : ℕ) → pieces ≡ word body 7 → waste ≡ word body 8 → nodes ≡ word body 9
     → id_line (ascii "sheet") body 0 5
-    ++ (concat_map (row_at Part.Piece body 10) (range pieces)
-    ++ (concat_map (row_at Part.Waste body (10 + 9 * pieces)) (range waste)
+    ++ (concat_map (λ k. piece_at body (10 + 9 * k)) (range pieces)
+    ++ (concat_map (λ k. waste_at body (10 + 9 * pieces + 4 * k)) (range waste)
     ++ (word_line (ascii "guide") body 9 1
-    ++ concat_map (row_at Part.Node body (10 + 9 * pieces + 4 * waste)) (range nodes))))
+    ++ concat_map (λ k. node_at body (10 + 9 * pieces + 4 * waste + 8 * k)) (range nodes))))
     ≡ sheet_text (sheet_in body)
-unfolding row_at piece_at waste_at node_at sheet_text sheet_in
+unfolding piece_at waste_at node_at sheet_text sheet_in
 sheet_text_lem body pieces waste nodes p w n =
     rw (p, w, n)
     (λ j. head_line body j

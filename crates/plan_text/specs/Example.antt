@@ -1,4 +1,4 @@
--- Document 01's example of the text, and a plan of no sheets, by computation.
+-- The text of a plan of one board, and of one with no sheets, by computation.
 use Rattle.std.specs.Prelude.{ℕ, ◌≡◌, refl, List, [], ◌∷◌}
 use Rattle.lists.specs.Base.{concat_map, count_from}
 use Rattle.model.specs.Plan.{sheet_part, part_of}

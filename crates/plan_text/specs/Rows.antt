@@ -2,8 +2,6 @@
 use Rattle.std.specs.Prelude.{ℕ, ◌+◌, ◌*◌, ◌^◌, List, take, drop}
 use Rattle.model.specs.Plan.{sheet_part}
 use Rattle.trust.specs.Words.{word, piece_in, waste_in, node_in, sheet_in, piece_size, waste_size, node_size}
-use Rattle.plan_text.specs.declared.Part.{Part}
-use Rattle.plan_text.specs.declared.Part.TheVariants.{Piece, Waste, Node}
 use Rattle.plan_text.specs.Text.{field, piece_line, waste_line, node_line, sheet_text}
 
 -- the word k places behind one, as a field
@@ -22,12 +20,6 @@ waste_at body row = waste_line (waste_in (take waste_size (drop row body)))
 
 unfoldable pub node_at : List ℕ → ℕ → List ℕ
 node_at body row = node_line (node_in (take node_size (drop row body)))
-
--- row k of a part that starts at a word
-unfoldable pub row_at : Part → List ℕ → ℕ → ℕ → List ℕ
-row_at Piece body start k = piece_at body (start + piece_size * k)
-row_at Waste body start k = waste_at body (start + waste_size * k)
-row_at Node body start k = node_at body (start + node_size * k)
 
 -- sheet k of a plan
 unfoldable pub sheet_at : List ℕ → ℕ → List ℕ

@@ -1,4 +1,4 @@
--- The text of a plan as `cutplan` prints it: document 01, "Plan". The fields of a line follow the plan's order.
+-- The text of a plan as `cutplan` prints it: a line for each of its parts, with the fields in the order of the plan's words.
 use Rattle.std.specs.Prelude.{ℕ, ◌+◌, ◌*◌, ◌^◌, List, [], ◌∷◌, ◌++◌, length, if◌then◌else◌}
 use Rattle.lists.specs.Base.{concat_map}
 use Rattle.model.specs.declared.Rect.{Rect}

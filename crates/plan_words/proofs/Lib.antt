@@ -1,3 +1,3 @@
 -- Laws that belong to no one function.
 pub mod Waste
-pub mod Joined
+pub mod Rows

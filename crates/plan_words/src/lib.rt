@@ -1,48 +1,15 @@
-// The words of a plan: numbers in two words, a piece's nine, the free rectangles', and the ten before a sheet's pieces.
+// The words of a plan: a piece's nine, the free rectangles', and the ten before a sheet's pieces.
 #![tactic(auto)]
 
-ghost use Rattle.std.specs.Prelude.{◌≡◌, ◌+◌, ◌*◌, ◌/◌, ◌%◌, ◌^◌, ◌≤◌, length, get_or};
+ghost use Rattle.std.specs.Prelude.{◌≡◌, ◌+◌, ◌*◌, ◌≤◌, length, get_or};
 ghost use Rattle.lists.specs.Base.{concat_map};
 ghost use Rattle.lists.specs.Parts.{patch};
 ghost use Rattle.model.specs.declared.BaselineGuillotineHeuristic.{BaselineGuillotineHeuristic as Heuristic};
-ghost use Rattle.model.specs.Types.{pattern_code, flag_code};
 ghost use Rattle.model.specs.Plan.{rect_words, piece_words};
 ghost use Rattle.rect_words.specs.SheetWords.{rects_in, Block};
 ghost use Rattle.plan_words.specs.Rows.{piece, head_words};
 
-use model::{CutInstance, FitResult, PatternDirection, StockInstance};
-
-// A u64's low word, and its high one.
-pub fn low(x: u64) -> u32
-    ensures { result ≡ x % 2 ^ 32 }
-{
-    (x % 0x1_0000_0000) as u32
-}
-
-pub fn high(x: u64) -> u32
-    ensures { result ≡ x / 2 ^ 32 }
-{
-    (x / 0x1_0000_0000) as u32
-}
-
-fn pattern_code(pattern: PatternDirection) -> u32
-    ensures { result ≡ pattern_code pattern }
-{
-    match pattern {
-        PatternDirection::None => 0,
-        PatternDirection::ParallelToWidth => 1,
-        PatternDirection::ParallelToLength => 2,
-    }
-}
-
-fn flag_code(flag: bool) -> u32
-    ensures { result ≡ flag_code flag }
-{
-    if flag {
-        return 1;
-    }
-    0
-}
+use model::{CutInstance, FitResult, StockInstance};
 
 // A piece's nine words.
 pub fn put_piece(plan: &mut [u32], at: usize, cut: CutInstance, fit: FitResult)
@@ -50,18 +17,21 @@ pub fn put_piece(plan: &mut [u32], at: usize, cut: CutInstance, fit: FitResult)
     ensures { (h : Heuristic) → plan.new ≡ patch plan.old at (piece_words (piece cut h fit)) }
 {
     let rect = fit.rect;
-    let pattern = fit.pattern;
-    let id = cut.cut_id;
-    copying::put_four(plan, at, low(id), high(id), cut.instance, rect.x);
-    copying::put_four(
+    copying::put_words(
         plan,
-        at + 4,
-        rect.y,
-        rect.width,
-        rect.length,
-        pattern_code(pattern),
+        at,
+        &[
+            numbers::low_word(cut.cut_id),
+            numbers::high_word(cut.cut_id),
+            cut.instance,
+            rect.x,
+            rect.y,
+            rect.width,
+            rect.length,
+            fit.pattern as u32,
+            u32::from(fit.rotated),
+        ],
     );
-    plan[at + 8] = flag_code(fit.rotated);
 }
 
 // The free rectangles' words. The answer is how many there are.
@@ -70,7 +40,7 @@ pub fn put_waste(plan: &mut [u32], at: usize, rects: &[u32]) -> usize
     ensures { (plan.new ≡ patch plan.old at (concat_map rect_words (rects_in rects.now))) × (result ≡ length (rects_in rects.now)) }
 {
     let count = rects[0] as usize;
-    copying::put_words(plan, at, &rects[1..], 4 * count);
+    copying::put_words(plan, at, &rects[1..1 + 4 * count]);
     count
 }
 
@@ -88,8 +58,20 @@ pub fn put_head(
     requires { at + 10 ≤ length plan.old }
     ensures { plan.new ≡ patch plan.old at (head_words stock used saw pieces waste nodes) }
 {
-    let id = stock.stock_id;
-    copying::put_four(plan, at, low(id), high(id), stock.instance, stock.width);
-    copying::put_four(plan, at + 4, stock.length, used, saw, pieces);
-    copying::put_two(plan, at + 8, waste, nodes)
+    copying::put_words(
+        plan,
+        at,
+        &[
+            numbers::low_word(stock.stock_id),
+            numbers::high_word(stock.stock_id),
+            stock.instance,
+            stock.width,
+            stock.length,
+            used,
+            saw,
+            pieces,
+            waste,
+            nodes,
+        ],
+    )
 }

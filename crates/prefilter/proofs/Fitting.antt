@@ -9,10 +9,8 @@ use lib.Dec.{ltb}
 use lib.ListN.{get_or, drop}
 use lib.Seq.{get_or-take, get_or-drop}
 use borrow.Author.Tests.{lt-ltb, le-ltb}
-use Rattle.lists.specs.Base.{any, all, sum, range}
-use Rattle.model.specs.declared.CutInstance.{CutInstance}
+use Rattle.lists.specs.Base.{all, sum, range}
 use Rattle.model.specs.Types.{stock_area, cut_area}
-use Rattle.model.specs.Fit.{cut_fits_stock}
 use Rattle.model.specs.Refusal.{first_that_applies}
 use Rattle.model.specs.Answer.{prefilter}
 use Rattle.trust.proofs.CandidateSize.{stock_area_most, cut_area_most}
@@ -20,11 +18,6 @@ use Rattle.rows.specs.Rows.{row_at, stock_of, cut_of, stock_at, cut_at}
 use Rattle.candidate.specs.declared.Instance.{Instance}
 use Rattle.candidate.specs.Stands.{instance_in, Tables}
 use Rattle.prefilter.specs.Rows.{fits_any, row_area}
-use Rattle.prefilter.proofs.Left.{left, left_all}
-
-pub fits_start : (stock : List ℕ) (boards : ℕ) (cut : CutInstance) → any (cut_fits_stock cut) (map (stock_at stock) (left 0 boards)) ≡ fits_any stock boards cut
-unfolding fits_any
-fits_start stock boards cut = ap (λ (l : List ℕ). any (cut_fits_stock cut) (map (stock_at stock) l)) (left_all boards)
 
 -- ---- areas
 

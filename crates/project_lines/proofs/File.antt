@@ -1,4 +1,4 @@
--- The file of a project: its size, and that it is well formed.
+-- The file of a project: its rows one after the other, its size, and that it is well formed.
 use Prim.Native.Nat.{ℕ, ◌+◌, ◌*◌, ◌%◌, ◌^◌, ◌≤◌, ◌<◌}
 use native.Mathlib.Numerals.{add-one}
 use native.Mathlib.Omega.{arith}
@@ -6,19 +6,17 @@ use mathlib.Core.Path.{◌≡◌, refl, sym, ap, ◌∙◌}
 use mathlib.Core.Bool.{true}
 use mathlib.Core.List.{List, [], ◌∷◌, ◌++◌, append_assoc, append-nil}
 use lib.Dec.{eqb}
-use lib.ListN.{length, get_or, take, drop, length-append}
+use lib.ListN.{length, get_or, take, length-append}
 use lib.Seq.{take-suc, take_all}
 use Rattle.lists.specs.Base.{concat_map}
 use Rattle.lists.proofs.Sums.{length_concat_map}
 use Rattle.model.specs.FileOf.{bytes_of}
 use Rattle.model.specs.Project.{little_endian, number, well_formed}
-use Rattle.append.specs.Appending.{Appended}
-use Rattle.append.proofs.Laws.{appended_is, appended_then}
+use Rattle.append.specs.Appending.{with_bytes}
+use Rattle.append.proofs.Buffers.{with_bytes-nil, with_bytes-append}
 use Rattle.project_line.specs.declared.Row.{Row}
-use Rattle.project_line.specs.declared.Reason.{Reason}
-use Rattle.project_lines.specs.declared.Parsed.{Parsed}
-use Rattle.project_lines.specs.Draft.{Parsing}
-use Rattle.project_lines.specs.Project.{Listed, Meaning, project, bad_line, row_text, rows_text, contents_text, settings_text, file_text}
+use Rattle.project_lines.specs.declared.Draft.{Draft}
+use Rattle.project_lines.specs.Project.{row_text, rows_text, contents_text, settings_text, file_text}
 use borrow.Author.Tests.{eq-eqb, le-leb}
 
 -- ---- rows one after the other
@@ -31,13 +29,13 @@ rows_more rows i r h = sym (ap (λ (n : ℕ). concat_map row_text (take n rows))
     snoc [] x = append-nil (row_text x)
     snoc (y ∷ ys) x = ap (λ (t : List ℕ). row_text y ++ t) (snoc ys x) ∙ sym (append_assoc (row_text y) (concat_map row_text ys) (row_text x))
 
-module _ (rows : List Row) (i : ℕ) (r : Row) (h : i < length rows) where
-  pub rows_next : {l m n : List ℕ} {at b c : ℕ} → Appended l at (rows_text (take i rows)) m b → Appended m b (row_text (get_or rows i r)) n c → Appended l at (rows_text (take (i + 1) rows)) n c
-  rows_next p q = appended_is (appended_then p q) (rows_more rows i r h)
+module _ (room : ℕ) (held : List ℕ) (rows : List Row) where
+  pub rows_none : held ≡ with_bytes room held (rows_text (take 0 rows))
+  unfolding rows_text concat_map
+  rows_none = sym (with_bytes-nil room held)
 
-pub rows_none : (rows : List Row) → [] ≡ rows_text (take 0 rows)
-unfolding rows_text concat_map
-rows_none rows = refl
+  pub rows_next : (i : ℕ) (r : Row) → i < length rows → with_bytes room (with_bytes room held (rows_text (take i rows))) (row_text (get_or rows i r)) ≡ with_bytes room held (rows_text (take (i + 1) rows))
+  rows_next i r h = sym (with_bytes-append room held _ _) ∙ ap (with_bytes room held) (rows_more rows i r h)
 
 -- ---- sizes
 
@@ -49,7 +47,7 @@ length_rows : (rows : List Row) → length (rows_text rows) ≡ 24 * length rows
 unfolding rows_text
 length_rows rows = length_concat_map 24 row_text length_row rows ∙ omega arith
 
-pub length_file : (d : Listed) → length (file_text d) ≡ 32 + 24 * length d.boards + 24 * length d.panels
+pub length_file : (d : Draft) → length (file_text d) ≡ 32 + 24 * length d.boards + 24 * length d.panels
 unfolding file_text contents_text settings_text
 length_file d =
     let e : length (rows_text d.boards ++ rows_text d.panels) ≡ 24 * length d.boards + 24 * length d.panels =
@@ -86,7 +84,7 @@ shaped bytes b p e f g h i j k m n =
       eq-eqb (32 + 24 * b + 24 * p) (32 + 24 * b + 24 * p) refl,
     )
 
-pub well_formed_lem : (d : Listed) → length d.boards ≤ 64 → length d.panels ≤ 64 → well_formed (file_text d) ≡ true
+pub well_formed_lem : (d : Draft) → length d.boards ≤ 64 → length d.panels ≤ 64 → well_formed (file_text d) ≡ true
 unfolding number little_endian file_text contents_text settings_text
 well_formed_lem d b p =
     shaped (file_text d) (length d.boards) (length d.panels) refl refl refl
@@ -95,19 +93,7 @@ well_formed_lem d b p =
     (four (24 * length d.panels) (omega arith))
     (length_file d) b p
 
--- ---- the answer
-
-pub parsing_bad : (m : Meaning) (number : ℕ) (why : Reason) (l : List ℕ) → m ≡ bad_line number why → Parsing m (Parsed.BadLine number why) l l
-unfolding Parsing
-parsing_bad m number why l e = rw e (refl, refl)
-
-pub parsing_file : (m : Meaning) (d : Listed) (l k : List ℕ) (r : ℕ) → m ≡ project d → length l ≡ 3104 → length d.boards ≤ 64 → length d.panels ≤ 64
-    → Appended l 0 (file_text d) k r → Parsing m (Parsed.File r) l k
-unfolding Parsing
-parsing_file m d l k r e s b p a =
-    let n : r ≡ length (file_text d) = omega (arith, a.reached, length_file d) in
-    let start : take (length (file_text d)) k ≡ file_text d =
-    ap (λ (j : ℕ). take j k) (sym n) ∙ a.start ∙ take_all (length l) (file_text d) (omega (arith, length_file d)) in
-    let rest : drop (length (file_text d)) k ≡ drop (length (file_text d)) l =
-    ap (λ (j : ℕ). drop j k) (sym n) ∙ a.rest ∙ ap (λ (j : ℕ). drop j l) n in
-    rw e (ap Parsed.File n, start, rest, well_formed_lem d b p)
+-- a buffer with room for it holds a file, put in part by part
+pub file_fits : (d : Draft) → length d.boards ≤ 64 → length d.panels ≤ 64 → with_bytes 3104 [] (file_text d) ≡ file_text d
+unfolding with_bytes
+file_fits d b p = take_all 3104 (file_text d) (omega (arith, length_file d))

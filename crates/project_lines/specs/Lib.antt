@@ -1,2 +1,1 @@
 pub mod Project
-pub mod Draft

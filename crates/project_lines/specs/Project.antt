@@ -1,8 +1,8 @@
 -- What a text says: its lines in order, each of them understood, make a project file; the first that is not is named. A later setting of a
 -- kind takes the place of an earlier one. Whether the planner takes the project is the planner's to say.
-use Rattle.std.specs.Prelude.{ℕ, ◌+◌, ◌*◌, List, [], ◌∷◌, ◌++◌, eqb, ltb, length, if◌then◌else◌}
-use Rattle.std.proofs.Math.Option.{Option, none, some}
+use Rattle.std.specs.Prelude.{ℕ, ◌+◌, ◌*◌, Option, Some, None, Result, Ok, Err, List, [], ◌∷◌, ◌++◌, eqb, ltb, length, decimal, if◌then◌else◌}
 use Rattle.lists.specs.Base.{concat_map}
+use Rattle.append.specs.Ascii.{ascii}
 use Rattle.model.specs.FileOf.{bytes_of}
 use Rattle.project_line.specs.declared.Kind.{Kind}
 use Rattle.project_line.specs.declared.Line.{Line}
@@ -10,55 +10,50 @@ use Rattle.project_line.specs.declared.Reason.{Reason}
 use Rattle.project_line.specs.declared.Row.{Row}
 use Rattle.project_line.specs.declared.Setting.{Setting}
 use Rattle.project_line.specs.Lines.{line_of}
+use Rattle.project_line.specs.Messages.{message_of}
+use Rattle.project_lines.specs.declared.BadLine.{BadLine}
+use Rattle.project_lines.specs.declared.Draft.{Draft}
 
 -- ---- the project as far as it was read
 
-pub record Listed : Type 0 where
-  pub kerf : ℕ
-  pub layout : ℕ
-  pub effort : ℕ
-  pub unit : ℕ
-  pub boards : List Row
-  pub panels : List Row
-
-abbrev pub no_rows : List Row
-no_rows = []
-
 -- before the first line: kerf 0, guillotine, fast, millimetre
-unfoldable pub empty : Listed
+abbrev pub empty : Draft
 empty = record { kerf = 0; layout = 0; effort = 0; unit = 0; boards = []; panels = [] }
 
-unfoldable pub set : Listed → Setting → ℕ → Listed
-set d Setting.Kerf n = record { kerf = n; layout = d.layout; effort = d.effort; unit = d.unit; boards = d.boards; panels = d.panels }
-set d Setting.Layout n = record { kerf = d.kerf; layout = n; effort = d.effort; unit = d.unit; boards = d.boards; panels = d.panels }
-set d Setting.Effort n = record { kerf = d.kerf; layout = d.layout; effort = n; unit = d.unit; boards = d.boards; panels = d.panels }
-set d Setting.Unit n = record { kerf = d.kerf; layout = d.layout; effort = d.effort; unit = n; boards = d.boards; panels = d.panels }
+abbrev pub set : Draft → Setting → ℕ → Draft
+set d Setting.Kerf n = record d { kerf = n }
+set d Setting.Layout n = record d { layout = n }
+set d Setting.Effort n = record d { effort = n }
+set d Setting.Unit n = record d { unit = n }
 
 -- at most 64 records of a kind
-unfoldable pub pushed : List Row → Row → List Row
+abbrev pub pushed : List Row → Row → List Row
 pushed rows row = if ltb (length rows) 64 then rows ++ (row ∷ []) else rows
 
-unfoldable pub rows_added : Listed → Kind → Row → Listed
-rows_added d Kind.Board row =
-    record { kerf = d.kerf; layout = d.layout; effort = d.effort; unit = d.unit; boards = pushed d.boards row; panels = d.panels }
-rows_added d Kind.Panel row =
-    record { kerf = d.kerf; layout = d.layout; effort = d.effort; unit = d.unit; boards = d.boards; panels = pushed d.panels row }
+abbrev pub rows_added : Draft → Kind → Row → Draft
+rows_added d Kind.Board row = record d { boards = pushed d.boards row }
+rows_added d Kind.Panel row = record d { panels = pushed d.panels row }
 
-unfoldable pub added : Listed → Line → Listed
-added d Line.Blank = d
-added d (Line.Set setting n) = set d setting n
-added d (Line.Record kind row) = rows_added d kind row
-added d (Line.Bad why) = d
+abbrev pub added : Draft → Result Line Reason → Draft
+added d (Ok Line.Blank) = d
+added d (Ok (Line.Set setting n)) = set d setting n
+added d (Ok (Line.Record kind row)) = rows_added d kind row
+added d (Err why) = d
 
 abbrev pub too_many : ℕ → Option Reason
-too_many count = if ltb count 64 then none else some Reason.TooMany
+too_many count = if ltb count 64 then None else Some Reason.TooMany
 
-unfoldable pub refusal_of : Listed → Line → Option Reason
-refusal_of d Line.Blank = none
-refusal_of d (Line.Set setting n) = none
-refusal_of d (Line.Record Kind.Board row) = too_many (length d.boards)
-refusal_of d (Line.Record Kind.Panel row) = too_many (length d.panels)
-refusal_of d (Line.Bad why) = some why
+abbrev pub refusal_of : Draft → Result Line Reason → Option Reason
+refusal_of d (Ok Line.Blank) = None
+refusal_of d (Ok (Line.Set setting n)) = None
+refusal_of d (Ok (Line.Record Kind.Board row)) = too_many (length d.boards)
+refusal_of d (Ok (Line.Record Kind.Panel row)) = too_many (length d.panels)
+refusal_of d (Err why) = Some why
+
+-- what is answered where nothing refuses, and where something does
+abbrev pub answer_of : Option Reason → Result (Unit {0}) Reason
+answer_of None = Ok tt
+answer_of (Some why) = Err why
 
 -- ---- the file
 
@@ -78,7 +73,7 @@ contents_text boards panels =
 unfoldable pub settings_text : ℕ → ℕ → ℕ → ℕ → List ℕ
 settings_text kerf layout effort unit = bytes_of 4 kerf ++ (bytes_of 1 layout ++ (bytes_of 1 effort ++ (bytes_of 1 unit ++ bytes_of 1 0)))
 
-unfoldable pub file_text : Listed → List ℕ
+unfoldable pub file_text : Draft → List ℕ
 file_text d =
     contents_text (length d.boards) (length d.panels) ++ (settings_text d.kerf d.layout d.effort d.unit
     ++ (rows_text d.boards ++ rows_text d.panels))
@@ -95,18 +90,23 @@ unfoldable pub lines_of : List ℕ → List (List ℕ)
 lines_of [] = []
 lines_of (c ∷ cs) = if eqb c 10 then [] ∷ lines_of cs else glued c (lines_of cs)
 
-pub data Meaning : Type 0 where
-  project : Listed → Meaning
-  bad_line : ℕ → Reason → Meaning
-
-unfoldable pub unless : ℕ → Option Reason → Meaning → Meaning
-unless number none meaning = meaning
-unless number (some why) meaning = bad_line number why
+unfoldable pub unless : ℕ → Option Reason → Result Draft BadLine → Result Draft BadLine
+unless number None meaning = meaning
+unless number (Some why) meaning = Err (record { number = number; why = why })
 
 -- the lines from a number on
-unfoldable pub meaning_from : ℕ → Listed → List (List ℕ) → Meaning
-meaning_from number d [] = project d
+unfoldable pub meaning_from : ℕ → Draft → List (List ℕ) → Result Draft BadLine
+meaning_from number d [] = Ok d
 meaning_from number d (l ∷ ls) = unless number (refusal_of d (line_of l)) (meaning_from (number + 1) (added d (line_of l)) ls)
 
-unfoldable pub meaning : List ℕ → Meaning
+-- the project, or the first bad line and its number, counted from one
+unfoldable pub meaning : List ℕ → Result Draft BadLine
 meaning text = meaning_from 1 empty (lines_of text)
+
+abbrev pub file_of : Result Draft BadLine → Result (List ℕ) BadLine
+file_of (Ok d) = Ok (file_text d)
+file_of (Err bad) = Err bad
+
+-- what a person reads of a bad line
+abbrev pub message_of_line : BadLine → List ℕ
+message_of_line bad = ascii "line " ++ (decimal bad.number ++ (ascii ": " ++ message_of bad.why))

@@ -5,8 +5,8 @@ use native.Mathlib.Numerals.{add-one}
 use native.Mathlib.Omega.{arith}
 use mathlib.Core.Path.{◌≡◌, refl, sym, ap, ◌∙◌}
 use mathlib.Core.List.{List, [], ◌∷◌, ◌++◌, map, append_assoc}
-use lib.ListN.{length, get_or, set, take, drop, length-append, length-take, length-drop, length-set, take-append-drop, drop_of_length-le}
-use lib.Seq.{take_all, take-suc, take-suc-set, drop-cons, take_at, drop-append-add, drop-drop, drop-set-lt, ext_get_or, length-take-le}
+use lib.ListN.{length, get_or, set, take, drop, length-append, length-take, length-drop, length-set, take-append-drop}
+use lib.Seq.{take_all, take-suc, drop-cons, take_at, drop-append-add, drop-drop, drop-set-lt, ext_get_or, length-take-le}
 use Rattle.lists.specs.Base.{count_from, concat_map, swap_remove}
 use Rattle.lists.proofs.InPlace.{swap_remove_index}
 use Rattle.lists.proofs.Counts.{length_count_map, get_or_count_from}
@@ -27,19 +27,10 @@ pub get_rects : (w : List ℕ) (k : ℕ) → k < get_or w 0 0 → get_or (rects_
 unfolding rects_in
 get_rects w k h = let here : 0 + k ≡ k = omega arith in get_or_count_from (rect_at w) no_rect 0 (get_or w 0 0) k h ∙ ap (rect_at w) here
 
--- the rectangle at i, and those behind it
-pub drop_rects : (w : List ℕ) (i : ℕ) → i < get_or w 0 0 → drop i (rects_in w) ≡ rect_at w i ∷ drop (i + 1) (rects_in w)
-drop_rects w i h =
-    let within : i < length (rects_in w) = rw (length_rects w) h in
-    rw (add-one, drop-cons (rects_in w) i no_rect within, get_rects w i h)
-
-pub drop_rects_end : (w : List ℕ) (i : ℕ) → get_or w 0 0 ≤ i → drop i (rects_in w) ≡ []
-drop_rects_end w i h = drop_of_length-le (rects_in w) {i = i} (omega (arith, length_rects w))
-
 -- ---- writing
 
 -- the rectangle behind the first ones
-pub put_snoc : (w : List ℕ) (rs : List Rect) (r : Rect) (k : ℕ) → length rs ≡ k → 4 * k + 5 ≤ length w
+put_snoc : (w : List ℕ) (rs : List Rect) (r : Rect) (k : ℕ) → length rs ≡ k → 4 * k + 5 ≤ length w
     → put_rect (put_rects w rs) k r ≡ put_rects w (rs ++ (r ∷ []))
 unfolding put_rect put_rects concat_map
 put_snoc w rs r k e h =
@@ -122,7 +113,7 @@ unfolding with_rects
 count_with rs w = refl
 
 -- behind them the words stay
-pub drop_with : (rs : List Rect) (w : List ℕ) (n : ℕ) → 4 * length rs + 1 ≤ n → drop n (with_rects rs w) ≡ drop n w
+drop_with : (rs : List Rect) (w : List ℕ) (n : ℕ) → 4 * length rs + 1 ≤ n → drop n (with_rects rs w) ≡ drop n w
 unfolding with_rects
 drop_with rs w n h =
     let m = n - (4 * length rs + 1) in
@@ -133,16 +124,30 @@ drop_with rs w n h =
     ap (λ (k : ℕ). drop k (front ++ rest)) at ∙ drop-append-add front rest m ∙ drop-drop m (4 * length rs + 1) w ∙ ap (λ (k : ℕ). drop k w) back
 
 -- what was there before does not matter where it is written over
-pub with_with : (rs qs : List Rect) (w : List ℕ) → length qs ≤ length rs → with_rects rs (with_rects qs w) ≡ with_rects rs w
+with_with : (rs qs : List Rect) (w : List ℕ) → length qs ≤ length rs → with_rects rs (with_rects qs w) ≡ with_rects rs w
 unfolding with_rects
 with_with rs qs w h = ap (λ (l : List ℕ). length rs ∷ (concat_map rect_words rs ++ l)) (drop_with qs w (4 * length rs + 1) (omega arith))
 
--- a turn of the loop that reads the rectangles into an array
-pub load_step : (l : List Rect) (w : List ℕ) (i : ℕ) → i < length l → i < get_or w 0 0 → take i l ≡ take i (rects_in w)
-    → take (i + 1) (set l i (rect_at w i)) ≡ take (i + 1) (rects_in w)
-load_step l w i h k e =
-    let within : i < length (rects_in w) = rw (length_rects w) k in
-    rw (add-one, take-suc-set l i (rect_at w i) h, take-suc (rects_in w) i no_rect within, get_rects w i k, e)
+-- one rectangle more, read or written
+pub load_step : (w : List ℕ) (i : ℕ) → i < get_or w 0 0 → take (i + 1) (rects_in w) ≡ take i (rects_in w) ++ (rect_at w i ∷ [])
+load_step w i h =
+    let within : i < length (rects_in w) = rw (length_rects w) h in
+    rw (add-one, take-suc (rects_in w) i no_rect within, get_rects w i h)
+
+pub all_rects : (w : List ℕ) (i : ℕ) → get_or w 0 0 ≤ i → take i (rects_in w) ≡ rects_in w
+all_rects w i h = take_all i (rects_in w) (omega (arith, length_rects w))
+
+pub store_step : (w : List ℕ) (rs : List Rect) (i : ℕ) → i < length rs → 4 * i + 5 ≤ length w
+    → put_rects w (take (i + 1) rs) ≡ put_rect (put_rects w (take i rs)) i (get_or rs i no_rect)
+store_step w rs i h room =
+    let under : i ≤ length rs = omega arith in
+    ap (put_rects w) (ap (λ (n : ℕ). take n rs) (add-one i) ∙ take-suc rs i no_rect h) ∙ sym (put_snoc w (take i rs) (get_or rs i no_rect) i (length-take-le i rs under) room)
+
+pub bare_words : (w : List ℕ) (r : Rect) → 5 ≤ length w → put_rect (set w 0 1) 0 r ≡ with_rects (r ∷ []) w
+bare_words w r h =
+    ap (λ (v : List ℕ). put_rect v 0 r) (sym (put_none (set w 0 1)))
+    ∙ put_snoc (set w 0 1) [] r 0 refl (simp length-set (omega arith))
+    ∙ put_counted w (r ∷ []) 1 refl (omega arith)
 
 -- rectangles added to those
 pub with_more : (rs more : List Rect) (w : List ℕ) → with_rects (rects_in (with_rects rs w) ++ more) (with_rects rs w) ≡ with_rects (rs ++ more) w

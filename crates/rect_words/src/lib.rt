@@ -4,12 +4,12 @@
 ghost use Rattle.std.specs.Prelude.{◌≡◌, ◌∷◌, [], ◌≤◌, ◌<◌};
 ghost use lib.ListN.{length};
 ghost use Rattle.model.specs.Types.{rect};
-ghost use Rattle.free_rects.specs.FreeList.{rects_of, Holds};
 ghost use Rattle.rect_words.specs.SheetWords.{rect_at, rects_in, put_rect, put_rects, with_rects, most_rects, block_words, Block};
 
 use free_rects::FreeRects;
 use model::Rect;
 
+#[tactic(auto, unfolding(crate::specs::SheetWords::rect_at))]
 pub fn rect_at(sheet: &[u32], index: usize) -> Rect
     requires { (index < most_rects) × (block_words ≤ length sheet.now) }
     ensures { result ≡ rect_at sheet.now index }
@@ -23,70 +23,53 @@ pub fn rect_at(sheet: &[u32], index: usize) -> Rect
     }
 }
 
+#[tactic(auto, unfolding(crate::specs::SheetWords::put_rect))]
 pub fn put_rect(sheet: &mut [u32], index: usize, rect: Rect)
     requires { (index < most_rects) × (block_words ≤ length sheet.old) }
     ensures { sheet.new ≡ put_rect sheet.old index rect }
 {
-    copying::put_four(
+    copying::put_words(
         sheet,
         4 * index + 1,
-        rect.x,
-        rect.y,
-        rect.width,
-        rect.length,
+        &[rect.x, rect.y, rect.width, rect.length],
     )
 }
 
 // The free rectangles by value.
+#[tactic(auto, using(crate::proofs::Words::load_step, crate::proofs::Words::all_rects))]
 pub fn load(sheet: &[u32]) -> FreeRects
     requires { Block sheet.now }
-    ensures { Holds result (rects_in sheet.now) }
+    ensures { result ≡ rects_in sheet.now }
 {
-    let none = Rect {
-        x: 0,
-        y: 0,
-        width: 0,
-        length: 0,
-    };
-    let count = sheet[0] as usize;
-    let rects = [none; 65];
-    let mut free = FreeRects {
-        rects: rects,
-        count: count,
-    };
-    let mut index: usize = 0;
-    while index < count {
-        let rect = rect_at(sheet, index);
-        free.rects[index] = rect;
-        index += 1;
+    let mut free = FreeRects::new();
+    for index in 0..sheet[0] as usize {
+        free.push(rect_at(sheet, index));
     }
     free
 }
 
-fn store_rects(sheet: &mut [u32], free: FreeRects)
-    requires { (free.count ≤ most_rects) × (block_words ≤ length sheet.old) }
-    ensures { sheet.new ≡ put_rects sheet.old (rects_of free) }
+#[tactic(auto, using(crate::proofs::Words::store_step, crate::proofs::Words::put_none))]
+fn store_rects(sheet: &mut [u32], rects: &[Rect])
+    requires { (length rects.now ≤ most_rects) × (block_words ≤ length sheet.old) }
+    ensures { sheet.new ≡ put_rects sheet.old rects.now }
 {
-    let count = free.count;
-    let mut index: usize = 0;
-    while index < count {
-        let rect = free.rects[index];
-        put_rect(sheet, index, rect);
-        index += 1;
+    for (index, rect) in rects.iter().enumerate() {
+        put_rect(sheet, index, *rect);
     }
 }
 
 // The free rectangles back into the words, the count first.
-pub fn store(sheet: &mut [u32], free: FreeRects)
-    requires { (free.count ≤ most_rects) × (block_words ≤ length sheet.old) }
-    ensures { sheet.new ≡ with_rects (rects_of free) sheet.old }
+#[tactic(auto, using(crate::proofs::Words::put_counted))]
+pub fn store(sheet: &mut [u32], free: &FreeRects)
+    requires { block_words ≤ length sheet.old }
+    ensures { sheet.new ≡ with_rects free.now sheet.old }
 {
-    let count = free.count;
-    sheet[0] = count as u32;
-    store_rects(sheet, free);
+    sheet[0] = free.len() as u32;
+    store_rects(sheet, free.as_slice());
 }
 
 // The bare board.
+#[tactic(auto, using(crate::proofs::Words::bare_words))]
 pub fn new_sheet(sheet: &mut [u32], width: u32, length: u32)
     requires { block_words ≤ lib.ListN.length sheet.old }
     ensures { sheet.new ≡ with_rects (rect 0 0 width length ∷ []) sheet.old }
@@ -94,8 +77,8 @@ pub fn new_sheet(sheet: &mut [u32], width: u32, length: u32)
     let board = Rect {
         x: 0,
         y: 0,
-        width: width,
-        length: length,
+        width,
+        length,
     };
     sheet[0] = 1;
     put_rect(sheet, 0, board);

@@ -6,28 +6,26 @@ use mathlib.Core.Bool.{Bool, true, false, ◌&&◌}
 use mathlib.Core.List.{List, [], ◌∷◌, ◌++◌}
 use mathlib.Core.Option.{Option, none, some}
 use lib.Dec.{eqb}
+use lib.ListN.{length}
 use borrow.Author.Tests.{eq-eqb, ne_eqb}
+use Rattle.lists.proofs.Booleans.{and_true}
 use Rattle.lists.specs.Base.{◌<|>◌, count_from, is_empty}
-use Rattle.model.specs.Project.{Project, record_length, stock_start, stock_length, cuts_start, cuts_length, project_of, well_formed}
+use Rattle.model.specs.Project.{Piece, Project, record_length, project_of, well_formed}
 use Rattle.model.specs.Refusal.{Check, first_that_applies, stock_rule, cut_rule, settings_checks, record_checks, total_quantity, whole_checks, project_checks, file_checks, file_refusal}
-use Rattle.project.specs.Records.{records_from}
-use Rattle.project.proofs.Shape.{stock_is, cuts_is}
+use Rattle.project.specs.Records.{records_from, records}
+use Rattle.project.proofs.Shape.{long, file_refused}
 use Rattle.refusals.proofs.Checks.{rows_append}
 
--- ---- the project's parts
-
-empty_is : (bytes : List ℕ) (at n : ℕ) → is_empty (records_from bytes at 0 n) ≡ eqb n 0
-unfolding count_from
-empty_is bytes at zero = refl
-empty_is bytes at (suc n) = sym (ne_eqb (suc n) 0 (λ e. omega arith))
-
-pub cuts_empty : (bytes : List ℕ) (n : ℕ) → n ≡ cuts_length bytes / record_length → is_empty (project_of bytes).cuts ≡ eqb n 0
-cuts_empty bytes n e = ap is_empty (sym (cuts_is bytes)) ∙ empty_is bytes (cuts_start bytes) (cuts_length bytes / record_length) ∙ ap (λ (m : ℕ). eqb m 0) (sym e)
-
-pub stock_total : (bytes : List ℕ) (total n : ℕ) → n ≡ stock_length bytes / record_length → total ≡ total_quantity (records_from bytes stock_start 0 n) → total ≡ total_quantity (project_of bytes).stock
-stock_total bytes total n e f = f ∙ ap total_quantity (ap (records_from bytes stock_start 0) e ∙ stock_is bytes)
-
 -- ---- the checks after all records
+
+-- no records are no cuts
+pub cuts_empty : (body : List ℕ) (n : ℕ) (ps : List Piece) → records body ≡ ps → n ≡ length body / record_length → is_empty ps ≡ eqb n 0
+unfolding count_from
+cuts_empty body n ps e f = ap is_empty (sym e) ∙ empty_is (length body / record_length) ∙ ap (λ (m : ℕ). eqb m 0) (sym f)
+  where
+    empty_is : (n : ℕ) → is_empty (records_from body 0 n) ≡ eqb n 0
+    empty_is zero = refl
+    empty_is (suc n) = sym (ne_eqb (suc n) 0 (λ e. omega arith))
 
 module _ (p : Project) (n : ℕ) (empty : is_empty p.cuts ≡ eqb n 0) where
   pub whole_empty : n ≡ 0 → none ≡ first_that_applies (whole_checks p)
@@ -38,19 +36,10 @@ module _ (p : Project) (n : ℕ) (empty : is_empty p.cuts ≡ eqb n 0) where
       nested true = refl
       nested false = refl
 
-  module _ (some_cuts : n ≡ 0 → ⊥) (total : ℕ) (total_is : total ≡ total_quantity p.stock) where
-    pub whole_no_stock : total ≡ 0 → some 13 ≡ first_that_applies (whole_checks p)
-    unfolding whole_checks first_that_applies
-    whole_no_stock e = rw (empty, ne_eqb n 0 some_cuts, sym total_is, eq-eqb total 0 e)
-
-    module _ (stocked : total ≡ 0 → ⊥) (layout : ℕ) (layout_is : layout ≡ p.layout) where
-      pub whole_nested : layout ≡ 1 → some 14 ≡ first_that_applies (whole_checks p)
-      unfolding whole_checks first_that_applies
-      whole_nested e = rw (empty, ne_eqb n 0 some_cuts, sym total_is, ne_eqb total 0 stocked, sym layout_is, eq-eqb layout 1 e)
-
-      pub whole_passed : (layout ≡ 1 → ⊥) → none ≡ first_that_applies (whole_checks p)
-      unfolding whole_checks first_that_applies
-      whole_passed e = rw (empty, ne_eqb n 0 some_cuts, sym total_is, ne_eqb total 0 stocked, sym layout_is, ne_eqb layout 1 e)
+  pub whole_rows : (n ≡ 0 → ⊥) → (stock layout : ℕ) → stock ≡ total_quantity p.stock → layout ≡ p.layout
+      → first_that_applies ((13, eqb stock 0) ∷ (14, eqb layout 1) ∷ []) ≡ first_that_applies (whole_checks p)
+  unfolding whole_checks
+  whole_rows h stock layout e f = rw (empty, ne_eqb n 0 h, and_true, e, f)
 
 -- ---- the whole table
 
@@ -68,3 +57,15 @@ project_rows p =
 pub file_contents : (bytes : List ℕ) → well_formed bytes ≡ true → first_that_applies (project_checks (project_of bytes)) ≡ file_refusal bytes
 unfolding file_refusal file_checks first_that_applies
 file_contents bytes e = rw e
+
+-- ---- one check after the other
+
+pub stops : (n : ℕ) (o p : Option ℕ) → o ≡ some n → (o <|> p) ≡ some n
+stops n o p e = ap (λ (q : Option ℕ). q <|> p) e
+
+pub goes_on : (o p : Option ℕ) → o ≡ none → (o <|> p) ≡ p
+goes_on o p e = ap (λ (q : Option ℕ). q <|> p) e
+
+pub ruleset in_turn = (long, project_rows, stops, goes_on)
+
+pub ruleset of_the_file = (file_refused, file_contents)

@@ -1,2 +1,2 @@
 -- The definitions that the contracts of the checks cite.
-pub mod Answers
+pub mod Checks

@@ -12,16 +12,15 @@ pub const STOCK_WORDS: usize = 6;
 
 pub const CUT_WORDS: usize = 7;
 
+#[tactic(auto, using(crate::proofs::Rows::patterns))]
 fn pattern_of(code: u32) -> PatternDirection
     ensures { result ≡ pattern_of code }
 {
-    if code == 0 {
-        return PatternDirection::None;
+    match code {
+        0 => PatternDirection::None,
+        1 => PatternDirection::ParallelToWidth,
+        _ => PatternDirection::ParallelToLength,
     }
-    if code == 1 {
-        return PatternDirection::ParallelToWidth;
-    }
-    PatternDirection::ParallelToLength
 }
 
 // What a row of either table starts with.

@@ -1,34 +1,34 @@
 // A sheet's saw and use: how far its guide has the saw go, whose nodes are in eight words each as in `guide`, and how much of its board is placed.
 #![tactic(auto)]
 
-ghost use Rattle.std.specs.Prelude.{◌≡◌, ◌+◌, ◌*◌, ◌/◌, ◌≤◌, ◌<◌, length};
-ghost use Rattle.saw.specs.Saws.{saw_at, Sawn, Sawable};
+ghost use Rattle.std.specs.Prelude.{◌≡◌, ◌*◌, ◌/◌, ◌^◌, ◌≤◌, ◌<◌, map, sum};
+ghost use Rattle.saw.specs.Saws.{saw_of, Sawn, Sawable};
 
-fn saw_at(words: &[u32], at: usize) -> u32
-    requires { 8 * at + 8 ≤ length words.now }
-    ensures { result ≡ saw_at words.now at }
+// A horizontal cut is as long as its work rectangle is wide, a vertical one as that is long.
+fn saw_of(node: &[u32; 8]) -> u32
+    ensures { result ≡ saw_of node.now }
 {
-    if words[8 * at] != 0 {
-        return 0;
+    match *node {
+        [0, 0, _, _, _, _, width, _] => width,
+        [0, _, _, _, _, _, _, length] => length,
+        _ => 0,
     }
-    if words[8 * at + 1] != 0 {
-        return words[8 * at + 7];
-    }
-    words[8 * at + 6]
 }
 
-// The sum of the cuts' lengths.
-pub fn saw_length(words: &[u32], count: usize) -> u32
-    requires { Sawable words.now count }
-    ensures { Sawn words.now count result }
+fn total_saw(nodes: &[[u32; 8]]) -> u32
+    requires { sum (map saw_of nodes.now) < 2 ^ 32 }
+    ensures { result ≡ sum (map saw_of nodes.now) }
 {
-    let mut total: u32 = 0;
-    let mut at = 0;
-    while at < count {
-        total += saw_at(words, at);
-        at += 1;
-    }
-    total
+    nodes.iter().map(|node| saw_of(node)).sum()
+}
+
+// The sum of the cuts' lengths, in the words of a whole guide.
+pub fn saw_length(words: &[u32]) -> u32
+    requires { Sawable words.now }
+    ensures { Sawn words.now result }
+{
+    let (nodes, _) = words.as_chunks::<8>();
+    total_saw(nodes)
 }
 
 // The share of a board that is placed, in thousandths.

@@ -3,110 +3,59 @@
 
 ghost use Rattle.std.specs.Prelude.{◌≡◌};
 ghost use Rattle.lists.specs.Base.{is_less, is_greater};
-ghost use Rattle.model.specs.Fitness.{compare_float};
+ghost use Rattle.lists.specs.Language.{option_of, order_of};
+ghost use Rattle.model.specs.Fitness.{compare_float, compare_fitness};
 ghost use Rattle.model.specs.Candidate.{compare_score};
-ghost use Rattle.scores.specs.Scores.{ordering_of, score_of};
+ghost use Rattle.scores.specs.Scores.{score_of};
 
-// std::cmp::Ordering
-#[derive(Clone, Copy)]
-pub enum Ordering {
-    Less,
-    Equal,
-    Greater,
-}
+use std::cmp::Ordering;
 
-fn is_greater(o: Ordering) -> bool
-    ensures { result ≡ is_greater (ordering_of o) }
-{
-    match o {
-        Ordering::Less => false,
-        Ordering::Equal => false,
-        Ordering::Greater => true,
-    }
-}
-
-fn is_less(o: Ordering) -> bool
-    ensures { result ≡ is_less (ordering_of o) }
-{
-    match o {
-        Ordering::Less => true,
-        Ordering::Equal => false,
-        Ordering::Greater => false,
-    }
-}
-
-// The fitness counts only where a sheet is used: a candidate of no sheets has none.
+// A candidate of no sheets has no fitness.
 #[derive(Clone, Copy)]
 pub struct CandidateScore {
     pub used_stock_count: usize,
     pub waste_area: u64,
-    pub fitness: f64,
+    pub fitness: Option<f64>,
 }
 
-// partial_cmp, with Equal where there is none.
-fn compare_fitness(left: f64, right: f64) -> Ordering
-    ensures { ordering_of result ≡ compare_float left right }
+// partial_cmp, with Equal where there is none; no fitness is less than any.
+#[tactic(auto, using(crate::proofs::Order::fitness_order))]
+fn compare_fitness(left: Option<f64>, right: Option<f64>) -> Ordering
+    ensures { order_of result ≡ compare_fitness (option_of left) (option_of right) }
 {
-    if left < right {
-        return Ordering::Less;
-    }
-    if right < left {
-        return Ordering::Greater;
-    }
-    Ordering::Equal
-}
-
-// Less waste, then higher fitness if there is one: the order of two scores of as many sheets.
-fn compare_waste(left: CandidateScore, right: CandidateScore) -> Ordering
-    requires { left.used_stock_count ≡ right.used_stock_count }
-    ensures { ordering_of result ≡ compare_score (score_of left) (score_of right) }
-{
-    let l = left.waste_area;
-    let r = right.waste_area;
-    if r < l {
-        return Ordering::Less;
-    }
-    if l < r {
-        return Ordering::Greater;
-    }
-    if left.used_stock_count == 0 {
-        return Ordering::Equal;
-    }
-    compare_fitness(left.fitness, right.fitness)
+    left.partial_cmp(&right).unwrap_or(Ordering::Equal)
 }
 
 // Fewer sheets, less waste area, higher fitness: the better score is the greater one.
+#[tactic(auto, unfolding(model::specs::Candidate::compare_score, crate::specs::Scores::score_of))]
 fn compare_candidate_score(left: CandidateScore, right: CandidateScore) -> Ordering
-    ensures { ordering_of result ≡ compare_score (score_of left) (score_of right) }
+    ensures { order_of result ≡ compare_score (score_of left) (score_of right) }
 {
-    let l = left.used_stock_count;
-    let r = right.used_stock_count;
-    if r < l {
-        return Ordering::Less;
-    }
-    if l < r {
-        return Ordering::Greater;
-    }
-    compare_waste(left, right)
+    right
+        .used_stock_count
+        .cmp(&left.used_stock_count)
+        .then_with(|| right.waste_area.cmp(&left.waste_area))
+        .then_with(|| compare_fitness(left.fitness, right.fitness))
 }
 
 // The test of the final choice and, its operands exchanged, of survival's sort.
 pub fn is_better(left: CandidateScore, right: CandidateScore) -> bool
     ensures { result ≡ is_greater (compare_score (score_of left) (score_of right)) }
 {
-    is_greater(compare_candidate_score(left, right))
+    compare_candidate_score(left, right).is_gt()
 }
 
-// The test of the fittest donor sheet.
+// The test of the fittest donor sheet, and below that of the least fit one: functions, so that they can be handed on.
+#[tactic(auto, using(crate::proofs::Order::greater_is))]
 pub fn is_fitter(left: f64, right: f64) -> bool
     ensures { result ≡ is_greater (compare_float left right) }
 {
-    is_greater(compare_fitness(left, right))
+    left > right
 }
 
-// The test of the least fit sheet.
+#[tactic(auto, using(crate::proofs::Order::less_is))]
 pub fn is_less_fit(left: f64, right: f64) -> bool
     ensures { result ≡ is_less (compare_float left right) }
 {
-    is_less(compare_fitness(left, right))
+    left < right
 }

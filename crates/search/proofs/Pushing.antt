@@ -1,16 +1,15 @@
 -- Children behind their parents, two by two.
+use Rattle.std.specs.Prelude.{Option as Child, None, Some}
 use Prim.Native.Nat.{ℕ, suc, ◌+◌, ◌*◌, ◌≤◌, ◌<◌}
 use native.Mathlib.Omega.{arith}
 use native.Mathlib.Numerals.{add-one}
 use mathlib.Core.Path.{◌≡◌, refl, sym, ap, ap₂, ◌∙◌, subst}
 use mathlib.Core.Logic.{inl}
-use mathlib.Core.Bool.{true, false}
 use mathlib.Core.List.{List, [], ◌∷◌, ◌++◌, append-nil, append_assoc}
 use mathlib.Core.Option.{Option}
 use lib.ListN.{length, get_or, drop, length-drop}
 use lib.Seq.{drop-cons}
 use Rattle.lists.specs.Base.{to_list}
-use Rattle.lists.proofs.Options.{none_by}
 use Rattle.model.specs.declared.BaselineGuillotineHeuristic.{BaselineGuillotineHeuristic}
 use Rattle.model.specs.Candidate.{Candidate, new_candidate}
 use Rattle.model.specs.Expand.{ProblemInstance}
@@ -20,29 +19,28 @@ use Rattle.candidate.specs.Stands.{candidate_in, Stands}
 use Rattle.stored.specs.Slots.{slot_words, slot_of, stored_in, store_in}
 use Rattle.stored.specs.Populations.{words_at, candidate_at, population_in, AllStand, Holds, OnlySlots}
 use Rattle.stored.proofs.Populations.{slot_kept, only_wider, only_none, only_then, same_slot, load_fits, standing_at, population_length, population_at, pushed_only}
-use Rattle.variation.specs.declared.Child.{Child}
 use Rattle.variation.specs.Children.{IsChild}
 use Rattle.search.proofs.Passes.{pushed_holds}
 use Rattle.search.specs.Regions.{PushesChild}
 
 -- ---- one child
 
-pub push_none : (base size : ℕ) (child : Child) (ws : List ℕ) → child.found ≡ false → PushesChild base size child ws ws size
-push_none base size child ws f =
+pub push_none : (base size : ℕ) (ws : List ℕ) → PushesChild base size None ws ws size
+push_none base size ws =
     record {
-      holds = λ inst o cs few k h. subst (Holds inst ws base size) (sym (ap (λ (p : Option Candidate). cs ++ to_list p) (none_by o (sym (sym f ∙ k.found))) ∙ append-nil cs)) h;
+      holds = λ inst o cs few k h. subst (Holds inst ws base size) (sym (ap (λ (p : Option Candidate). cs ++ to_list p) k ∙ append-nil cs)) h;
       only = λ inst o few k. only_none (base + size) (base + size + 1) ws;
       least = omega arith;
       most = omega arith;
     }
 
-pub push_one : (base size : ℕ) (child : Child) (ws after : List ℕ) → child.found ≡ true → slot_words * (base + size) + slot_words ≤ length ws
-    → after ≡ store_in ws (base + size) child.candidate → PushesChild base size child ws after (size + 1)
-push_one base size child ws after f room e =
+pub push_one : (base size : ℕ) (c : Words) (ws after : List ℕ) → slot_words * (base + size) + slot_words ≤ length ws
+    → after ≡ store_in ws (base + size) c → PushesChild base size (Some c) ws after (size + 1)
+push_one base size c ws after room e =
     record {
       holds = λ inst o cs few k h.
-          subst (Holds inst after base (size + 1)) (ap (λ (p : Option Candidate). cs ++ to_list p) (sym (k.is f))) (pushed_holds inst ws after base size child.candidate (k.stands f) room few e cs h);
-      only = λ inst o few k. pushed_only inst ws after base size child.candidate (k.stands f) room few e;
+          subst (Holds inst after base (size + 1)) (ap (λ (p : Option Candidate). cs ++ to_list p) (sym k.is)) (pushed_holds inst ws after base size c k.stands room few e cs h);
+      only = λ inst o few k. pushed_only inst ws after base size c k.stands room few e;
       least = omega arith;
       most = omega arith;
     }
@@ -95,7 +93,7 @@ module _ (inst : ProblemInstance) (h : BaselineGuillotineHeuristic) (before ws :
       ∙ drop-cons parents (i + 1) d (omega arith)
       ∙ ap₂ {C = List Candidate} (λ x r. x ∷ r) (population_at inst before base count (i + 1) d (omega arith)) (ap (λ (m : ℕ). drop m parents) two))
 
-  pub crossed_step : (after : List ℕ) (left right : Words) (child : Child) (r : ℕ) → i + 1 < count → count ≤ 32 → length inst.cuts ≤ 64
+  pub crossed_step : (after : List ℕ) (left right : Words) (child : Child Words) (r : ℕ) → i + 1 < count → count ≤ 32 → length inst.cuts ≤ 64
       → left ≡ words_at inst before (base + i) → right ≡ words_at inst before (base + (i + 1)) → IsChild inst (child_of inst h (candidate_in inst left) (candidate_in inst right)) child
       → PushesChild base size child ws after r → CrossedTo inst h before base count (i + 2) r after
   unfolding children candidate_at

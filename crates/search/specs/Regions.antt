@@ -1,12 +1,12 @@
 -- The two regions of the workspace, and a child behind a population.
-use Rattle.std.specs.Prelude.{ℕ, ◌+◌, ◌*◌, ◌≤◌, ◌≡◌, ◌⊎◌, List, ◌++◌, length, drop}
+use Rattle.std.specs.Prelude.{ℕ, ◌+◌, ◌*◌, ◌≤◌, ◌≡◌, ◌⊎◌, List, ◌++◌, length, drop, Option as Child}
 use Rattle.std.proofs.Math.Option.{Option}
 use Rattle.lists.specs.Base.{to_list}
 use Rattle.model.specs.Candidate.{Candidate}
 use Rattle.model.specs.Expand.{ProblemInstance}
+use Rattle.candidate.specs.declared.Candidate.{Candidate as Words}
 use Rattle.stored.specs.Slots.{slot_words}
 use Rattle.stored.specs.Populations.{Holds, OnlySlots}
-use Rattle.variation.specs.declared.Child.{Child}
 use Rattle.variation.specs.Children.{IsChild}
 
 -- where a population begins
@@ -18,7 +18,7 @@ unfoldable pub behind_slots : List ℕ → List ℕ
 behind_slots ws = drop (slot_words * 96) ws
 
 -- a child, if there is one, behind the last candidate
-pub record PushesChild (base size : ℕ) (child : Child) (before after : List ℕ) (r : ℕ) : Type 0 where
+pub record PushesChild (base size : ℕ) (child : Child Words) (before after : List ℕ) (r : ℕ) : Type 0 where
   pub holds : (inst : ProblemInstance) (o : Option Candidate) (cs : List Candidate) → length inst.cuts ≤ 64 → IsChild inst o child → Holds inst before base size cs
       → Holds inst after base r (cs ++ to_list o)
   pub only : ((inst : ProblemInstance) (o : Option Candidate) → length inst.cuts ≤ 64 → IsChild inst o child → OnlySlots (base + size) (base + size + 1) before after)

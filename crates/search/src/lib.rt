@@ -3,12 +3,12 @@
 // A population is in one of two regions of 48 slots, and a generation's survivors are in the other.
 #![tactic(auto)]
 
-ghost use Rattle.std.specs.Prelude.{◌≡◌, true, [], map, ◌+◌, ◌-◌, ◌*◌, ◌≤◌, ◌<◌, length};
+ghost use Rattle.std.specs.Prelude.{◌≡◌, IfSome, [], map, ◌+◌, ◌-◌, ◌*◌, ◌≤◌, ◌<◌, length};
 ghost use Rattle.lists.specs.Base.{range};
 ghost use Rattle.lists.proofs.Perm.{Perm};
 ghost use Rattle.model.specs.Search.{crossover_population, generation, winner, initial_population};
 ghost use Rattle.candidate.specs.Stands.{instance_in, Tables, Stands};
-ghost use Rattle.seeds.specs.Rows.{numbers_of, rows_of};
+ghost use Rattle.seeds.specs.Rows.{numbers_of};
 ghost use Rattle.stored.specs.Slots.{slot_words, Storable};
 ghost use Rattle.stored.specs.Populations.{AllStand, Becomes, OnlySlots, Holds};
 ghost use Rattle.placing.specs.Blocks.{behind_blocks};
@@ -20,9 +20,7 @@ ghost use Rattle.search.specs.Improved.{improved, FromSeed, Improves};
 
 use candidate::{Candidate, Instance};
 use model::{BaselineGuillotineHeuristic, CandidateSeed};
-use seeds::{HeuristicRows, SearchNumbers};
-use survival::Found;
-use variation::Child;
+use seeds::SearchNumbers;
 
 // The slots of a region: 32 survivors and 16 children.
 const MOST: usize = 48;
@@ -39,11 +37,9 @@ fn candidate_from_seed(
     requires { Tables stock.now cuts.now inst × Perm (places_of (instance_in stock.now cuts.now inst) seed.cut_order) (range (length (instance_in stock.now cuts.now inst).cuts)) × (261 * 64 ≤ length free.old) }
     ensures { FromSeed (instance_in stock.now cuts.now inst) seed result × (behind_blocks free.new ≡ behind_blocks free.old) }
 {
-    let order = seed.cut_order;
-    let h = seed.heuristic;
-    let count = inst.cuts;
+    let order = &seed.cut_order[..inst.cuts];
     let new = candidate::new_candidate();
-    placing::place_cuts(free, stock, cuts, inst, new, &order[..count], h)
+    placing::place_cuts(free, stock, cuts, inst, new, order, seed.heuristic)
 }
 
 // The candidates of all seeds, in the slots from 0 on: how many.
@@ -53,21 +49,19 @@ fn initial_population(
     stock: &[u32],
     cuts: &[u32],
     inst: Instance,
-    rows: HeuristicRows,
+    rows: &[BaselineGuillotineHeuristic],
     n: SearchNumbers,
 ) -> usize
-    requires { Tables stock.now cuts.now inst × (rows.count ≤ 8) × (n.shuffles ≤ 24) × (slot_words * 48 ≤ length ws.old) × (261 * 64 ≤ length free.old) }
-    ensures { Holds (instance_in stock.now cuts.now inst) ws.new 0 result (initial_population (rows_of rows) (instance_in stock.now cuts.now inst) (numbers_of n))
+    requires { Tables stock.now cuts.now inst × (length rows.now ≤ 8) × (n.shuffles ≤ 24) × (slot_words * 48 ≤ length ws.old) × (261 * 64 ≤ length free.old) }
+    ensures { Holds (instance_in stock.now cuts.now inst) ws.new 0 result (initial_population rows.now (instance_in stock.now cuts.now inst) (numbers_of n))
         × OnlySlots 0 48 ws.old ws.new × (behind_blocks free.new ≡ behind_blocks free.old) × (result ≤ 32) }
 {
     let sorted = orders::sorted_cut_order(cuts, inst.cuts);
     let count = seeds::seed_count(rows, n);
-    let mut k: usize = 0;
-    while k < count {
+    for k in 0..count {
         let seed = seeds::initial_candidate_seed(sorted, inst.cuts, rows, n, k);
         let c = candidate_from_seed(free, stock, cuts, inst, seed);
         stored::store_at(ws, k, c);
-        k += 1;
     }
     count
 }
@@ -79,18 +73,9 @@ fn show_sheets(free: &mut [u32], stock: &[u32], cuts: &[u32], inst: Instance, c:
     requires { Tables stock.now cuts.now inst × Stands (instance_in stock.now cuts.now inst) [] c × (261 * 64 ≤ length free.old) }
     ensures { Leaves (instance_in stock.now cuts.now inst) free.old free.new c }
 {
-    let boards = c.boards;
-    let insertions = c.insertions;
-    let sheets = c.sheets;
-    let placed = c.placed;
-    let all = placing::rebuild(
-        free,
-        stock,
-        cuts,
-        inst,
-        &boards[..sheets],
-        &insertions[..placed],
-    );
+    let boards = &c.boards[..c.sheets];
+    let insertions = &c.insertions[..c.placed];
+    let _all = placing::rebuild(free, stock, cuts, inst, boards, insertions);
 }
 
 // Repair, compaction, repair.
@@ -126,28 +111,27 @@ fn improve_population(
     ensures { Becomes (instance_in stock.now cuts.now inst) (λ i. map (improved i h)) ws.old base count ws.new base count
         × OnlySlots base (base + count) ws.old ws.new × (behind_blocks free.new ≡ behind_blocks free.old) }
 {
-    let mut k: usize = 0;
-    while k < count {
+    for k in 0..count {
         let c = stored::load_at(ws, base + k, inst.cuts);
         let d = improve(free, stock, cuts, inst, c, h);
         stored::store_at(ws, base + k, d);
-        k += 1;
     }
 }
 
 // ---- crossover
 
-// A child goes behind the last candidate.
-fn push_child(ws: &mut [u32], base: usize, size: usize, child: Child) -> usize
-    requires { (slot_words * (base + size) + slot_words ≤ length ws.old) × (child.found ≡ true → Storable child.candidate) }
+// A child, if there is one, goes behind the last candidate: how many there are now.
+fn push_child(ws: &mut [u32], base: usize, size: usize, child: Option<Candidate>) -> usize
+    requires { (slot_words * (base + size) + slot_words ≤ length ws.old) × IfSome child (λ c. Storable c) }
     ensures { PushesChild base size child ws.old ws.new result }
 {
-    if !child.found {
-        return size;
+    match child {
+        None => size,
+        Some(c) => {
+            stored::store_at(ws, base + size, c);
+            size + 1
+        }
     }
-    let c = child.candidate;
-    stored::store_at(ws, base + size, c);
-    size + 1
 }
 
 // The children of neighbours, two by two, behind all parents: how many there are now.
@@ -166,15 +150,14 @@ fn crossover_population(
         × OnlySlots (base + count) (base + 48) ws.old ws.new × (behind_blocks free.new ≡ behind_blocks free.old) × (result ≤ 48) }
 {
     let mut size = count;
-    let mut i: usize = 0;
-    while i + 1 < count {
+    for pair in 0..count / 2 {
+        let i = 2 * pair;
         let left = stored::load_at(ws, base + i, inst.cuts);
         let right = stored::load_at(ws, base + (i + 1), inst.cuts);
         let child = variation::crossover_child_from_donor_bin(
             free, stock, cuts, inst, left, right, h,
         );
         size = push_child(ws, base, size, child);
-        i += 2;
     }
     size
 }
@@ -209,21 +192,19 @@ pub fn winner(
     stock: &[u32],
     cuts: &[u32],
     inst: Instance,
-    rows: HeuristicRows,
+    rows: &[BaselineGuillotineHeuristic],
     n: SearchNumbers,
-) -> Found
-    requires { Tables stock.now cuts.now inst × (rows.count ≤ 8) × (n.shuffles ≤ 24) × (n.survivors ≤ 32) × (slot_words * 96 ≤ length ws.old) × (261 * 64 ≤ length free.old) }
-    ensures { Chosen (instance_in stock.now cuts.now inst) (winner (rows_of rows) (instance_in stock.now cuts.now inst) (numbers_of n)) result
+) -> Option<Candidate>
+    requires { Tables stock.now cuts.now inst × (length rows.now ≤ 8) × (n.shuffles ≤ 24) × (n.survivors ≤ 32) × (slot_words * 96 ≤ length ws.old) × (261 * 64 ≤ length free.old) }
+    ensures { Chosen (instance_in stock.now cuts.now inst) (winner rows.now (instance_in stock.now cuts.now inst) (numbers_of n)) result
         × (behind_slots ws.new ≡ behind_slots ws.old) × (behind_blocks free.new ≡ behind_blocks free.old) }
 {
     let h = seeds::default_heuristic(rows);
     let mut count = initial_population(ws, free, stock, cuts, inst, rows, n);
     let mut base: usize = 0;
-    let mut round: usize = 0;
-    while round < n.generations {
+    for _round in 0..n.generations {
         count = next_generation(ws, base, count, free, stock, cuts, inst, h, n.survivors);
         base = MOST - base;
-        round += 1;
     }
     survival::select_best_valid_candidate(ws, base, count, stock, cuts, inst)
 }

@@ -1,13 +1,12 @@
 -- The seeds one by one: those of the sorted order, one for each row that is used, and then the shuffles.
 use Rattle.std.specs.Prelude.{if◌then◌else◌}
-use Rattle.std.proofs.Common.{◌≡◌, ℕ, zero, suc, ◌+◌, ◌-◌, ◌<◌, ◌≤◌, Bool, true, false, List, [], ◌∷◌, ◌++◌, map, length, get_or, drop, sym, refl, ap, ◌∙◌, subst, not-suc-le-zero, arith, length-append, length-take-le, get_or-take, take_at, get_or-append-add}
+use Rattle.std.proofs.Common.{◌≡◌, ℕ, zero, suc, ◌+◌, ◌-◌, ◌<◌, ◌≤◌, Bool, true, false, List, [], ◌∷◌, ◌++◌, map, length, get_or, drop, sym, refl, ap, ◌∙◌, subst, not-suc-le-zero, arith, length-append, take_at, get_or-append-add}
 use lib.ListN.{get_or-append, get_or-eq_default}
 use Rattle.lists.specs.Base.{range}
 use Rattle.lists.proofs.Perm.{Perm, also, length_perm}
 use Rattle.lists.proofs.Sums.{length-map, length_count_from}
 use Rattle.lists.proofs.Maps.{get_d_map, map-map}
 use Rattle.lists.proofs.Counts.{get_or_count}
-use Rattle.lists.proofs.Arrays.{get_d_any}
 use Rattle.model.specs.declared.BaselineGuillotineHeuristic.{BaselineGuillotineHeuristic}
 use Rattle.model.specs.declared.CutInstance.{CutInstance}
 use Rattle.model.specs.declared.InstanceKey.{InstanceKey}
@@ -19,8 +18,7 @@ use Rattle.shuffle.specs.Shuffle.{shuffled}
 use Rattle.shuffle.proofs.Shuffle.{shuffled_perm, shuffled_keys}
 use Rattle.candidate.specs.Stands.{cut_in}
 use Rattle.seeds.specs.declared.SearchNumbers.{SearchNumbers}
-use Rattle.seeds.specs.declared.HeuristicRows.{HeuristicRows}
-use Rattle.seeds.specs.Rows.{numbers_of, rows_of, sorted_seeds}
+use Rattle.seeds.specs.Rows.{numbers_of, sorted_seeds}
 use Rattle.seeds.specs.Seeds.{places_of, seed_in, InOrder, no_seed, IsSeed}
 
 -- ---- the seeds in two parts
@@ -62,28 +60,16 @@ used_length [] true = refl
 used_length (row ∷ rows) true = omega arith
 used_length rows false = refl
 
-module _ (r : HeuristicRows) (few : r.count ≤ 8) (size : length r.rows ≡ 8) where
-  rows_length : length (rows_of r) ≡ r.count
-  unfolding rows_of
-  rows_length = length-take-le r.count r.rows (omega (arith, few))
+-- the default behind the last row
+pub no_row : (rows : List BaselineGuillotineHeuristic) (k : ℕ) → length rows ≤ k → row_at rows k ≡ default_heuristic []
+no_row rows k l = get_or-eq_default rows _ l
 
-  -- a row that there is, and the default behind the last
-  pub row_at_lem : (k : ℕ) (d : BaselineGuillotineHeuristic) → k < r.count → row_at (rows_of r) k ≡ get_or r.rows k d
-  unfolding rows_of
-  row_at_lem k d l = get_or-take r.count r.rows k _ l ∙ get_d_any r.rows k _ d (omega (arith, few))
-
-  pub no_row : (k : ℕ) → r.count ≤ k → row_at (rows_of r) k ≡ default_heuristic []
-  no_row k l = get_or-eq_default (rows_of r) _ (omega (arith, rows_length))
-
-module _ (r : HeuristicRows) (n : SearchNumbers) (few : r.count ≤ 8) (size : length r.rows ≡ 8) where
-  abbrev rows : List BaselineGuillotineHeuristic
-  rows = rows_of r
-
-  used_sorted : length (used rows n.variants) ≡ sorted_seeds r n
+module _ (rows : List BaselineGuillotineHeuristic) (n : SearchNumbers) where
+  used_sorted : length (used rows n.variants) ≡ sorted_seeds rows n
   unfolding sorted_seeds
-  used_sorted = used_length rows n.variants ∙ ap (λ (m : ℕ). if n.variants then 1 + (m - 1) else 1) (rows_length r few size)
+  used_sorted = used_length rows n.variants
 
-  pub seeds_length : (cuts : List CutInstance) → sorted_seeds r n + n.shuffles ≡ length (initial_seeds rows cuts (numbers_of n))
+  pub seeds_length : (cuts : List CutInstance) → sorted_seeds rows n + n.shuffles ≡ length (initial_seeds rows cuts (numbers_of n))
   unfolding numbers_of
   seeds_length cuts =
       let m : Numbers = numbers_of n in
@@ -98,17 +84,17 @@ module _ (r : HeuristicRows) (n : SearchNumbers) (few : r.count ≤ 8) (size : l
         length_count_from 0 n.shuffles,
       ))
 
-  pub sorted_most : sorted_seeds r n ≤ 8
+  pub sorted_most : length rows ≤ 8 → sorted_seeds rows n ≤ 8
   unfolding sorted_seeds
-  sorted_most = go n.variants
+  sorted_most few = go n.variants
     where
-      go : (b : Bool) → (if b then 1 + (r.count - 1) else 1) ≤ 8
-      go true = omega (arith, few)
+      go : (b : Bool) → (if b then 1 + (length rows - 1) else 1) ≤ 8
+      go true = omega arith
       go false = omega arith
 
   module _ (cuts : List CutInstance) (k : ℕ) where
     -- a seed of the sorted order
-    nth_sorted : k < sorted_seeds r n → get_or (initial_seeds rows cuts (numbers_of n)) k no_seed ≡ sorted_seed cuts (row_at rows k)
+    nth_sorted : k < sorted_seeds rows n → get_or (initial_seeds rows cuts (numbers_of n)) k no_seed ≡ sorted_seed cuts (row_at rows k)
     unfolding numbers_of
     nth_sorted l =
         let m : Numbers = numbers_of n in
@@ -119,12 +105,12 @@ module _ (r : HeuristicRows) (n : SearchNumbers) (few : r.count ≤ 8) (size : l
         ∙ ap (sorted_seed cuts) (used_at rows n.variants k (omega (arith, used_sorted)))
 
     -- a shuffle
-    nth_shuffled : sorted_seeds r n ≤ k → k < sorted_seeds r n + n.shuffles
-        → get_or (initial_seeds rows cuts (numbers_of n)) k no_seed ≡ shuffled_seed cuts (row_at rows 0) (numbers_of n) (k - sorted_seeds r n)
+    nth_shuffled : sorted_seeds rows n ≤ k → k < sorted_seeds rows n + n.shuffles
+        → get_or (initial_seeds rows cuts (numbers_of n)) k no_seed ≡ shuffled_seed cuts (row_at rows 0) (numbers_of n) (k - sorted_seeds rows n)
     unfolding numbers_of
     nth_shuffled f l =
         let m : Numbers = numbers_of n in
-        let j : ℕ = k - sorted_seeds r n in
+        let j : ℕ = k - sorted_seeds rows n in
         let sorted : List Seed = map (sorted_seed cuts) (used rows n.variants) in
         let shuffle : ℕ → Seed = shuffled_seed cuts (default_heuristic rows) m in
         let at : k ≡ length sorted + j = omega (arith, length-map (sorted_seed cuts) (used rows n.variants), used_sorted) in
@@ -143,14 +129,14 @@ module _ (r : HeuristicRows) (n : SearchNumbers) (few : r.count ≤ 8) (size : l
     unfolding sorted_cut_order
     keys = sym (map-map cut_key (cut_in inst) (places_of inst sorted)) ∙ ap (map cut_key) o.sorted
 
-    pub is_sorted : k < sorted_seeds r n → h ≡ row_at rows k → IsSeed rows inst (numbers_of n) k (record { cut_order = sorted; heuristic = h })
+    pub is_sorted : k < sorted_seeds rows n → h ≡ row_at rows k → IsSeed rows inst (numbers_of n) k (record { cut_order = sorted; heuristic = h })
     unfolding seed_in sorted_seed
     is_sorted l e = record { is = made ∙ sym (nth_sorted inst.cuts k l); once = o.once }
       where
         made : seed_in inst (record { cut_order = sorted; heuristic = h }) ≡ sorted_seed inst.cuts (row_at rows k)
         made = λ i. record { cut_order = keys i; heuristic = e i }
 
-    pub is_shuffled : (seed : ℕ) (order : List ℕ) → sorted_seeds r n ≤ k → k < sorted_seeds r n + n.shuffles → seed ≡ wrap (n.first_seed + (k - sorted_seeds r n)) → h ≡ row_at rows 0
+    pub is_shuffled : (seed : ℕ) (order : List ℕ) → sorted_seeds rows n ≤ k → k < sorted_seeds rows n + n.shuffles → seed ≡ wrap (n.first_seed + (k - sorted_seeds rows n)) → h ≡ row_at rows 0
         → order ≡ shuffled 0 seed (places_of inst sorted) ++ drop (length inst.cuts) sorted
         → IsSeed rows inst (numbers_of n) k (record { cut_order = order; heuristic = h })
     unfolding seed_in shuffled_seed shuffle_cut_order numbers_of
@@ -164,10 +150,10 @@ module _ (r : HeuristicRows) (n : SearchNumbers) (few : r.count ≤ 8) (size : l
             ap (places_of inst) e
             ∙ take_at (shuffled 0 seed (places_of inst sorted)) (drop (length inst.cuts) sorted) (length inst.cuts) (length_perm perm ∙ length_count_from 0 (length inst.cuts))
 
-        made : seed_in inst (record { cut_order = order; heuristic = h }) ≡ shuffled_seed inst.cuts (row_at rows 0) (numbers_of n) (k - sorted_seeds r n)
+        made : seed_in inst (record { cut_order = order; heuristic = h }) ≡ shuffled_seed inst.cuts (row_at rows 0) (numbers_of n) (k - sorted_seeds rows n)
         made =
             let key : ℕ → InstanceKey = λ p. cut_key (cut_in inst p) in
-            let shuffle : map key (places_of inst order) ≡ shuffle_cut_order inst.cuts (wrap (n.first_seed + (k - sorted_seeds r n))) =
+            let shuffle : map key (places_of inst order) ≡ shuffle_cut_order inst.cuts (wrap (n.first_seed + (k - sorted_seeds rows n))) =
             ap (map key) front ∙ shuffled_keys key seed (places_of inst sorted) (sorted_cut_order inst.cuts) keys ∙ ap (shuffle_cut_order inst.cuts) s
             in
             λ i. record { cut_order = shuffle i; heuristic = g i }

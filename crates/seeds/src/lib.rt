@@ -7,7 +7,7 @@ ghost use Rattle.model.specs.declared.CutInstance.{CutInstance};
 ghost use Rattle.model.specs.Expand.{ProblemInstance};
 ghost use Rattle.model.specs.Search.{heuristic, search_numbers, heuristic_variants, default_heuristic, initial_seeds};
 ghost use Rattle.shuffle.specs.Shuffle.{shuffled};
-ghost use Rattle.seeds.specs.Rows.{numbers_of, rows_of, sorted_seeds};
+ghost use Rattle.seeds.specs.Rows.{numbers_of, sorted_seeds};
 ghost use Rattle.seeds.specs.Seeds.{InOrder, IsSeed};
 
 use model::{
@@ -23,13 +23,6 @@ pub struct SearchNumbers {
     pub generations: usize,
     pub survivors: usize,
     pub first_seed: u64,
-}
-
-// Up to eight heuristics; the first, if there is one, is the default one.
-#[derive(Clone, Copy)]
-pub struct HeuristicRows {
-    pub rows: [BaselineGuillotineHeuristic; 8],
-    pub count: usize,
 }
 
 // ---- the numbers and the rows of the source
@@ -70,48 +63,44 @@ fn row(
     ensures { result ≡ heuristic rect_choice split rotation }
 {
     BaselineGuillotineHeuristic {
-        rect_choice: rect_choice,
-        split: split,
-        rotation: rotation,
+        rect_choice,
+        split,
+        rotation,
     }
 }
 
-pub fn heuristic_variants() -> HeuristicRows
-    ensures { (rows_of result ≡ heuristic_variants) × (result.count ≤ 8) }
+pub fn heuristic_variants() -> [BaselineGuillotineHeuristic; 5]
+    ensures { result ≡ heuristic_variants }
 {
     let upright = RotationPreference::PreferUpright;
     let longer = GuillotineSplitHeuristic::LongerAxis;
-    let first = row(
-        GuillotineRectChoice::Area,
-        GuillotineSplitHeuristic::Horizontal,
-        upright,
-    );
-    let mut rows = [first; 8];
-    rows[1] = row(GuillotineRectChoice::LongSide, longer, upright);
-    rows[2] = row(
-        GuillotineRectChoice::LongSide,
-        GuillotineSplitHeuristic::MaximizeArea,
-        upright,
-    );
-    rows[3] = row(GuillotineRectChoice::ShortSide, longer, upright);
-    rows[4] = row(
-        GuillotineRectChoice::LongSide,
-        longer,
-        RotationPreference::PreferRotated,
-    );
-    HeuristicRows {
-        rows: rows,
-        count: 5,
-    }
+    [
+        row(
+            GuillotineRectChoice::Area,
+            GuillotineSplitHeuristic::Horizontal,
+            upright,
+        ),
+        row(GuillotineRectChoice::LongSide, longer, upright),
+        row(
+            GuillotineRectChoice::LongSide,
+            GuillotineSplitHeuristic::MaximizeArea,
+            upright,
+        ),
+        row(GuillotineRectChoice::ShortSide, longer, upright),
+        row(
+            GuillotineRectChoice::LongSide,
+            longer,
+            RotationPreference::PreferRotated,
+        ),
+    ]
 }
 
 // Row k, and the source's default where there is none.
-fn heuristic_at(rows: HeuristicRows, k: usize) -> BaselineGuillotineHeuristic
-    requires { rows.count ≤ 8 }
-    ensures { result ≡ slice_index_or (rows_of rows) k (default_heuristic []) }
+fn heuristic_at(rows: &[BaselineGuillotineHeuristic], k: usize) -> BaselineGuillotineHeuristic
+    ensures { result ≡ slice_index_or rows.now k (default_heuristic []) }
 {
-    if k < rows.count {
-        return rows.rows[k];
+    if k < rows.len() {
+        return rows[k];
     }
     row(
         GuillotineRectChoice::Area,
@@ -121,9 +110,8 @@ fn heuristic_at(rows: HeuristicRows, k: usize) -> BaselineGuillotineHeuristic
 }
 
 // default_heuristic: the first row.
-pub fn default_heuristic(rows: HeuristicRows) -> BaselineGuillotineHeuristic
-    requires { rows.count ≤ 8 }
-    ensures { result ≡ default_heuristic (rows_of rows) }
+pub fn default_heuristic(rows: &[BaselineGuillotineHeuristic]) -> BaselineGuillotineHeuristic
+    ensures { result ≡ default_heuristic rows.now }
 {
     heuristic_at(rows, 0)
 }
@@ -131,20 +119,15 @@ pub fn default_heuristic(rows: HeuristicRows) -> BaselineGuillotineHeuristic
 // ---- seeds
 
 // How many seeds have the sorted order: one, and with variants one for each row.
-fn sorted_seeds(rows: HeuristicRows, n: SearchNumbers) -> usize
-    ensures { result ≡ sorted_seeds rows n }
+fn sorted_seeds(rows: &[BaselineGuillotineHeuristic], n: SearchNumbers) -> usize
+    ensures { result ≡ sorted_seeds rows.now n }
 {
-    if n.variants {
-        if 1 < rows.count {
-            return rows.count;
-        }
-    }
-    1
+    if n.variants { rows.len().max(1) } else { 1 }
 }
 
-pub fn seed_count(rows: HeuristicRows, n: SearchNumbers) -> usize
-    requires { (rows.count ≤ 8) × (n.shuffles ≤ 24) }
-    ensures { ((cuts : List CutInstance) → result ≡ length (initial_seeds (rows_of rows) cuts (numbers_of n))) × (result ≤ 32) }
+pub fn seed_count(rows: &[BaselineGuillotineHeuristic], n: SearchNumbers) -> usize
+    requires { (length rows.now ≤ 8) × (n.shuffles ≤ 24) }
+    ensures { ((cuts : List CutInstance) → result ≡ length (initial_seeds rows.now cuts (numbers_of n))) × (result ≤ 32) }
 {
     sorted_seeds(rows, n) + n.shuffles
 }
@@ -163,26 +146,23 @@ fn shuffled_order(sorted: [u32; 64], cuts: usize, seed: u64) -> [u32; 64]
 pub fn initial_candidate_seed(
     sorted: [u32; 64],
     cuts: usize,
-    rows: HeuristicRows,
+    rows: &[BaselineGuillotineHeuristic],
     n: SearchNumbers,
     k: usize,
 ) -> CandidateSeed
-    requires { (rows.count ≤ 8) × (cuts ≤ 64) × (k < sorted_seeds rows n + n.shuffles) }
-    ensures { (inst : ProblemInstance) → length inst.cuts ≡ cuts → InOrder inst sorted → IsSeed (rows_of rows) inst (numbers_of n) k result }
+    requires { (cuts ≤ 64) × (k < sorted_seeds rows.now n + n.shuffles) }
+    ensures { (inst : ProblemInstance) → length inst.cuts ≡ cuts → InOrder inst sorted → IsSeed rows.now inst (numbers_of n) k result }
 {
     let first = sorted_seeds(rows, n);
     if k < first {
-        let h = heuristic_at(rows, k);
         return CandidateSeed {
             cut_order: sorted,
-            heuristic: h,
+            heuristic: heuristic_at(rows, k),
         };
     }
-    let seed = std::num::wrapping_add_u64(n.first_seed, (k - first) as u64);
-    let order = shuffled_order(sorted, cuts, seed);
-    let h = heuristic_at(rows, 0);
+    let seed = n.first_seed.wrapping_add((k - first) as u64);
     CandidateSeed {
-        cut_order: order,
-        heuristic: h,
+        cut_order: shuffled_order(sorted, cuts, seed),
+        heuristic: heuristic_at(rows, 0),
     }
 }

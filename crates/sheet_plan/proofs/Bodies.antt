@@ -70,9 +70,9 @@ module _ (kerf : ℕ) (s : GuillotineSheet) (rects guide : List ℕ) (p : Progre
     pub block : Block rects
     block = record { room = omega (arith, state.room); few = few_rects }
 
-    pub sawable : Sawable guide p.nodes
+    pub sawable : Sawable (take (8 * p.nodes) guide)
     unfolding saw_of
-    sawable = record { guide = s.slicing_tree; holds = state.nodes; below = omega (arith, saw_range kerf s thin bounded, bounded.nodes) }
+    sawable = record { guide = s.slicing_tree; holds = state.nodes.reads; below = omega (arith, saw_range kerf s thin bounded, bounded.nodes) }
 
     pub shares : (0 < stock_area s.stock) × (p.placed ≤ stock_area s.stock) × (stock_area s.stock ≤ most_area)
     shares = (mul-pos bounded.board.wide bounded.board.long, omega (arith, state.placed, placed_most kerf s bounded.layout), board_area_most s.stock bounded.board)
@@ -84,7 +84,7 @@ module _ (kerf : ℕ) (s : GuillotineSheet) (rects guide : List ℕ) (p : Progre
         (second : plan₁ ≡ patch plan (at + 10 + 9 * p.pieces) (concat_map rect_words (rects_in rects)))
         (counted : count ≡ length (rects_in rects))
         (third : plan₂ ≡ patch plan₁ (at + 10 + 9 * p.pieces + 4 * count) (take (8 * p.nodes) guide))
-        (sawn : Sawn guide p.nodes saw) (share : used ≡ p.placed * 1000 / area) (board : area ≡ stock_area s.stock)
+        (sawn : Sawn (take (8 * p.nodes) guide) saw) (share : used ≡ p.placed * 1000 / area) (board : area ≡ stock_area s.stock)
         (fourth : plan₃ ≡ patch plan₂ at (head_words s.stock used saw p.pieces count p.nodes)) where
       wasted : plan₁ ≡ patch plan (at + 10 + 9 * p.pieces) (waste s)
       wasted = rw state.free.rects second
@@ -106,7 +106,7 @@ module _ (kerf : ℕ) (s : GuillotineSheet) (rects guide : List ℕ) (p : Progre
       unfolding use_of saw_of
       head_is =
           let use_is : used ≡ use_of s = share ∙ rw (board, state.placed) in
-          let saw_is : saw ≡ saw_of s = sawn.sawn s.slicing_tree state.nodes in
+          let saw_is : saw ≡ saw_of s = sawn.sawn s.slicing_tree state.nodes.reads in
           let count_is : count ≡ length s.free_rects = counted ∙ sym (ap length state.free.rects) in
           rw (use_is, saw_is, state.pieces, count_is, state.nodes.counts)
 
@@ -120,13 +120,12 @@ module _ (kerf : ℕ) (s : GuillotineSheet) (rects guide : List ℕ) (p : Progre
           ∙ patch_front before (at + 10) at (head_of s) rest (omega (arith, head_length s.stock (use_of s) (saw_of s) (length s.placed_pieces) (length s.free_rects) (length (nodes_of s.slicing_tree)))) (omega arith)
           ∙ ap (patch before at) (whole s)
 
-      pub finished : WritesSheet s at before plan₃ (record { end = at + 10 + 9 * p.pieces + 4 * count + 8 * p.nodes; placed = p.placed; area = area })
+      pub finished : WritesSheet s at before plan₃ (record { end = at + 10 + 9 * p.pieces + 4 * count + 8 * p.nodes; areas = record { placed = p.placed; board = area } })
       finished =
           record {
             words = body;
             end = omega (arith, body_length_lem, counted, free_count_lem, ap length state.free.rects);
-            placed = state.placed;
-            area = board;
+            areas = λ i. record { placed = state.placed i; board = board i };
           }
 
 -- ---- what the calls need
@@ -138,7 +137,7 @@ pub record Sizes (at : ℕ) (plan rects guide : List ℕ) (stock : StockInstance
   pub nodes : p.nodes ≤ 257
   pub held : 8 * p.nodes ≤ length guide
   pub block : Block rects
-  pub sawable : Sawable guide p.nodes
+  pub sawable : Sawable (take (8 * p.nodes) guide)
   pub positive : 0 < stock_area stock
   pub most : stock_area stock ≤ most_area
   pub part : p.placed ≤ stock_area stock

@@ -1,4 +1,5 @@
 -- A sheet's words from the bare board through an insertion.
+use Rattle.std.specs.Prelude.{None, Some}
 use Prim.Native.Nat.{ℕ, ◌+◌, ◌*◌, ◌≤◌, ◌<◌}
 use native.Mathlib.Omega.{arith}
 use mathlib.Core.Path.{◌≡◌, refl, sym, ap, ◌∙◌}
@@ -23,7 +24,6 @@ use Rattle.trust.proofs.Ranges.{PanelRange}
 use Rattle.trust.proofs.Placing.{best_place_good}
 use Rattle.trust.proofs.Bounded.{Bounded, try_insert_bounded, placed_most, board_area_most}
 use Rattle.trust.proofs.RoundTrip.{pieces_size}
-use Rattle.guillotine.specs.declared.Inserted.TheVariants as inserted
 use Rattle.rect_words.specs.SheetWords.{with_rects, Shows}
 use Rattle.best_place.specs.Places.{place_at}
 use Rattle.guillotine.specs.Insertions.{Insertable, InsertsInto}
@@ -90,10 +90,10 @@ module _ (kerf : ℕ) (s t : GuillotineSheet) (i : Insertion) (w g : List ℕ) (
         ready = state.ready;
       }
 
-  pub not_nothing : (w' : List ℕ) → InsertsInto kerf s i w w' inserted.Nothing → ⊥
+  pub not_nothing : (w' : List ℕ) → InsertsInto kerf s i w w' None → ⊥
   not_nothing w' e = none-ne-some t (sym (inserts_nothing kerf s i w w' e).0 ∙ step)
 
-  module _ (w' : List ℕ) (k : ℕ) (r : Rect) (f : FitResult) (m : Bool) (into : InsertsInto kerf s i w w' (inserted.At k r f m)) where
+  module _ (w' : List ℕ) (k : ℕ) (r : Rect) (f : FitResult) (m : Bool) (into : InsertsInto kerf s i w w' (Some (record { index = k; free_rect = r; fit = f; merged = m }))) where
     done : Placed kerf s i (place_at k r f) m w w'
     done = inserts_at kerf s i w w' k r f m into (rw state.free.rects state.ready)
 

@@ -1,4 +1,6 @@
 -- Insertion i of a making, over values: what each call needs, and what the last one leaves.
+use Rattle.std.specs.Prelude.{None, Some}
+use Rattle.std.specs.Prelude as Language
 use Prim.Native.Nat.{ℕ, ◌+◌, ◌*◌, ◌≤◌, ◌<◌}
 use native.Mathlib.Omega.{arith}
 use mathlib.Core.Path.{◌≡◌, refl, sym, ap, ◌∙◌}
@@ -22,7 +24,6 @@ use Rattle.model.specs.Plan.{piece_words, sheet_words}
 use Rattle.trust.proofs.Ranges.{PanelRange, Ranged}
 use Rattle.trust.proofs.Bounded.{Bounded}
 use Rattle.guillotine.specs.declared.Inserted.{Inserted}
-use Rattle.guillotine.specs.declared.Inserted.TheVariants as inserted
 use Rattle.rect_words.specs.SheetWords.{Shows}
 use Rattle.guillotine.specs.Insertions.{Insertable, InsertsInto, Inserts}
 use Rattle.candidate.specs.Entries.{board_of, cut_of, row_of}
@@ -34,16 +35,16 @@ use Rattle.sheet_plan.proofs.Steps.{no_piece, insertable, not_nothing, takeable,
 
 -- ---- an insertion by its case
 
-takeable_in : (at : ℕ) (plan g : List ℕ) (p : Progress) (res : Inserted) → (res ≡ inserted.Nothing → ⊥)
-    → ((k : ℕ) (fr : Rect) (f : FitResult) (merged : Bool) → res ≡ inserted.At k fr f merged → Takeable at plan g fr f p) → TakeableIn at plan g res p
-takeable_in at plan g p inserted.Nothing never may = never refl
-takeable_in at plan g p (inserted.At k fr f merged) never may = may k fr f merged refl
+takeable_in : (at : ℕ) (plan g : List ℕ) (p : Progress) (res : Language.Option Inserted) → (res ≡ None → ⊥)
+    → ((k : ℕ) (fr : Rect) (f : FitResult) (merged : Bool) → res ≡ Some (record { index = k; free_rect = fr; fit = f; merged = merged }) → Takeable at plan g fr f p) → TakeableIn at plan g res p
+takeable_in at plan g p None never may = never refl
+takeable_in at plan g p (Some i) never may = may i.index i.free_rect i.fit i.merged refl
 
-takes_in : (at kerf : ℕ) (cut : CutInstance) (h : BaselineGuillotineHeuristic) (p : Progress) (plan plan' g g' : List ℕ) (q : Progress) (res : Inserted)
+takes_in : (at kerf : ℕ) (cut : CutInstance) (h : BaselineGuillotineHeuristic) (p : Progress) (plan plan' g g' : List ℕ) (q : Progress) (res : Language.Option Inserted)
     → TakesIn at kerf cut h res p plan plan' g g' q → (Goal : Type 0)
-    → ((k : ℕ) (fr : Rect) (f : FitResult) (merged : Bool) → res ≡ inserted.At k fr f merged → Takes at kerf cut h fr f merged p plan plan' g g' q → Goal) → Goal
-takes_in at kerf cut h p plan plan' g g' q inserted.Nothing takes Goal by = absurd takes
-takes_in at kerf cut h p plan plan' g g' q (inserted.At k fr f merged) takes Goal by = by k fr f merged refl takes
+    → ((k : ℕ) (fr : Rect) (f : FitResult) (merged : Bool) → res ≡ Some (record { index = k; free_rect = fr; fit = f; merged = merged }) → Takes at kerf cut h fr f merged p plan plan' g g' q → Goal) → Goal
+takes_in at kerf cut h p plan plan' g g' q None takes Goal by = absurd takes
+takes_in at kerf cut h p plan plan' g g' q (Some i) takes Goal by = by i.index i.free_rect i.fit i.merged refl takes
 
 -- ---- one insertion
 
@@ -93,19 +94,19 @@ module _ (inst : ProblemInstance) (r : Ranged inst) (words : List ℕ) (b : ℕ)
       shown : Shows w pattern s
       shown = rw (grain, ← ap (λ st. st.pattern) (bin_board inst (take i words) b (begins inst words b m i))) state.free
 
-      module _ (w' : List ℕ) (res : Inserted) (ends : Inserts inst.kerf_width pattern cut row w w' res) where
-        into : (q : Inserted) → res ≡ q → InsertsInto inst.kerf_width s insertion w w' q
+      module _ (w' : List ℕ) (res : Language.Option Inserted) (ends : Inserts inst.kerf_width pattern cut row w w' res) where
+        into : (q : Language.Option Inserted) → res ≡ q → InsertsInto inst.kerf_width s insertion w w' q
         unfolding insertion
         into q e = rw e at (ends s shown)
 
-        never : res ≡ inserted.Nothing → ⊥
-        never e = not_nothing inst.kerf_width s t insertion w g p state bounded step w' (into inserted.Nothing e)
+        never : res ≡ None → ⊥
+        never e = not_nothing inst.kerf_width s t insertion w g p state bounded step w' (into None e)
 
-        module _ (k : ℕ) (fr : Rect) (f : FitResult) (merged : Bool) (e : res ≡ inserted.At k fr f merged) (at : ℕ) (plan : List ℕ) where
+        module _ (k : ℕ) (fr : Rect) (f : FitResult) (merged : Bool) (e : res ≡ Some (record { index = k; free_rect = fr; fit = f; merged = merged })) (at : ℕ) (plan : List ℕ) where
           may_take : at + 9 * length (bin_in inst words b).placed_pieces ≤ length plan → Takeable at plan g fr f p
           unfolding insertion
           may_take fits =
-              takeable inst.kerf_width s t insertion w g p state bounded step w' k fr f merged (into (inserted.At k fr f merged) e) at plan panel
+              takeable inst.kerf_width s t insertion w g p state bounded step w' k fr f merged (into (Some (record { index = k; free_rect = fr; fit = f; merged = merged })) e) at plan panel
               (omega (arith, begun_pieces inst words b m (i + 1))) (omega (arith, begun_pieces inst words b m (i + 1), bin_pieces inst words b m, m.few))
 
           taken : (plan' g' : List ℕ) (q : Progress) → length w' ≡ 261 → length g' ≡ 2056 → Takes at inst.kerf_width cut row fr f merged p plan plan' g g' q
@@ -113,8 +114,8 @@ module _ (inst : ProblemInstance) (r : Ranged inst) (words : List ℕ) (b : ℕ)
           unfolding insertion
           taken plan' g' q size space takes =
               record {
-                state = replayed inst.kerf_width s t insertion w g p state bounded step w' k fr f merged (into (inserted.At k fr f merged) e) at plan plan' g' q takes size space;
-                pieces = written inst.kerf_width s t insertion w g p state bounded step w' k fr f merged (into (inserted.At k fr f merged) e) at plan plan' g' q takes;
+                state = replayed inst.kerf_width s t insertion w g p state bounded step w' k fr f merged (into (Some (record { index = k; free_rect = fr; fit = f; merged = merged })) e) at plan plan' g' q takes size space;
+                pieces = written inst.kerf_width s t insertion w g p state bounded step w' k fr f merged (into (Some (record { index = k; free_rect = fr; fit = f; merged = merged })) e) at plan plan' g' q takes;
               }
 
         -- the piece of an insertion that finds its place

@@ -1,5 +1,5 @@
 -- A sheet while its making is replayed in lent words, and what each step leaves.
-use Rattle.std.specs.Prelude.{ℕ, ◌+◌, ◌*◌, ◌^◌, ◌≤◌, ◌<◌, ◌≡◌, Bool, List, length, take, drop}
+use Rattle.std.specs.Prelude.{ℕ, ◌+◌, ◌*◌, ◌^◌, ◌≤◌, ◌<◌, ◌≡◌, Bool, List, length, take, drop, Option, Some, None}
 use Rattle.std.proofs.Math.Option.{some}
 use Rattle.lists.specs.Base.{concat_map}
 use Rattle.lists.specs.Parts.{patch}
@@ -9,7 +9,7 @@ use Rattle.model.specs.declared.StockInstance.{StockInstance}
 use Rattle.model.specs.declared.CutInstance.{CutInstance}
 use Rattle.model.specs.declared.FitResult.{FitResult}
 use Rattle.model.specs.declared.BaselineGuillotineHeuristic.{BaselineGuillotineHeuristic}
-use Rattle.model.specs.Types.{area, stock_area}
+use Rattle.model.specs.Types.{area}
 use Rattle.model.specs.Refusal.{most_side}
 use Rattle.model.specs.Split.{split_direction}
 use Rattle.model.specs.Sheet.{GuillotineSheet, rebuild, placed_area}
@@ -19,11 +19,11 @@ use Rattle.trust.proofs.Ranges.{BoardRange}
 use Rattle.trust.proofs.Bounded.{Bounded}
 use Rattle.rect_words.specs.SheetWords.{rects_in, Shows}
 use Rattle.guillotine.specs.declared.Inserted.{Inserted}
-use Rattle.guillotine.specs.declared.Inserted.TheVariants as inserted
 use Rattle.guillotine.specs.Insertions.{Ready}
 use Rattle.subtree.specs.Words.{InCorner}
 use Rattle.subtree.specs.Words.{Holds}
 use Rattle.guide.specs.Words.{Guided, Becomes, next_guide}
+use Rattle.fitness.specs.Areas.{areas_of}
 use Rattle.candidate.specs.Entries.{cut_of}
 use Rattle.candidate.specs.Stands.{board_in, making_in, bin_in}
 use Rattle.sheet_plan.specs.declared.Progress.{Progress}
@@ -76,13 +76,13 @@ pub record Takes (at kerf : ℕ) (cut : CutInstance) (h : BaselineGuillotineHeur
   pub placed : q.placed ≡ p.placed + area fit.rect
 
 -- the same of an insertion, which found a place
-abbrev pub TakeableIn : ℕ → List ℕ → List ℕ → Inserted → Progress → Type 0
-TakeableIn at plan guide inserted.Nothing p = ⊥
-TakeableIn at plan guide (inserted.At index free_rect fit merged) p = Takeable at plan guide free_rect fit p
+abbrev pub TakeableIn : ℕ → List ℕ → List ℕ → Option Inserted → Progress → Type 0
+TakeableIn at plan guide None p = ⊥
+TakeableIn at plan guide (Some i) p = Takeable at plan guide i.free_rect i.fit p
 
-abbrev pub TakesIn : ℕ → ℕ → CutInstance → BaselineGuillotineHeuristic → Inserted → Progress → List ℕ → List ℕ → List ℕ → List ℕ → Progress → Type 0
-TakesIn at kerf cut h inserted.Nothing p plan plan' guide guide' q = ⊥
-TakesIn at kerf cut h (inserted.At index free_rect fit merged) p plan plan' guide guide' q = Takes at kerf cut h free_rect fit merged p plan plan' guide guide' q
+abbrev pub TakesIn : ℕ → ℕ → CutInstance → BaselineGuillotineHeuristic → Option Inserted → Progress → List ℕ → List ℕ → List ℕ → List ℕ → Progress → Type 0
+TakesIn at kerf cut h None p plan plan' guide guide' q = ⊥
+TakesIn at kerf cut h (Some i) p plan plan' guide guide' q = Takes at kerf cut h i.free_rect i.fit i.merged p plan plan' guide guide' q
 
 -- ---- insertions
 
@@ -101,8 +101,7 @@ pub record ReplaysSheet (kerf : ℕ) (s : GuillotineSheet) (at : ℕ) (plan plan
 pub record WritesSheet (s : GuillotineSheet) (at : ℕ) (before after : List ℕ) (b : Body) : Type 0 where
   pub words : after ≡ patch before at (sheet_words s)
   pub end : b.end ≡ at + length (sheet_words s)
-  pub placed : b.placed ≡ placed_area s
-  pub area : b.area ≡ stock_area s.stock
+  pub areas : b.areas ≡ areas_of s
 
 -- a sheet made again, whose pieces are in the plan
 pub record Finishable (at : ℕ) (plan rects guide : List ℕ) (stock : StockInstance) (p : Progress) : Type 0 where

@@ -6,11 +6,12 @@ ghost use Rattle.std.specs.Prelude.{◌≡◌, ◌+◌, ◌*◌, ◌≤◌, ◌<
 ghost use Rattle.model.specs.Sheet.{new_sheet};
 ghost use Rattle.model.specs.Plan.{sheet_words};
 ghost use Rattle.candidate.specs.Stands.{instance_in, Tables, bin_in};
-ghost use Rattle.sheet_plan.specs.Replaying.{Replayed, Boardable, Rebuildable, Takeable, Takes, TakeableIn, TakesIn, ReplaysWord, ReplaysSheet, WritesSheet, Finishable, Finishes};
+ghost use Rattle.sheet_plan.specs.Replaying.{Replayed, Boardable, Rebuildable, Takeable, Takes, ReplaysWord, ReplaysSheet, WritesSheet, Finishable, Finishes};
 
 use candidate::Instance;
+use fitness::SheetAreas;
 use guillotine::Inserted;
-use model::{BaselineGuillotineHeuristic, CutInstance, FitResult, Rect, StockInstance};
+use model::{BaselineGuillotineHeuristic, CutInstance, Rect, StockInstance};
 
 // ---- a sheet made again
 
@@ -42,7 +43,7 @@ fn bare_board(
     let nodes = guide::new_guide(guide, board);
     Progress {
         pieces: 0,
-        nodes: nodes,
+        nodes,
         placed: 0,
     }
 }
@@ -55,52 +56,24 @@ fn take_piece(
     kerf_width: u32,
     cut: CutInstance,
     h: BaselineGuillotineHeuristic,
-    free_rect: Rect,
-    fit: FitResult,
-    merged: bool,
-    p: Progress,
-) -> Progress
-    requires { Takeable at plan.old guide.old free_rect fit p }
-    ensures { Takes at kerf_width cut h free_rect fit merged p plan.old plan.new guide.old guide.new result }
-{
-    let placed = fit.rect;
-    let split = h.split;
-    let direction = choice::split_direction(free_rect, placed, split);
-    let nodes = guide::next_guide(
-        guide, p.nodes, merged, free_rect, placed, cut, direction, kerf_width,
-    );
-    plan_words::put_piece(plan, at + 9 * p.pieces, cut, fit);
-    Progress {
-        pieces: p.pieces + 1,
-        nodes: nodes,
-        placed: p.placed + numbers::area(placed.width, placed.length),
-    }
-}
-
-// What an insertion that found a place put there.
-fn take_inserted(
-    plan: &mut [u32],
-    at: usize,
-    guide: &mut [u32],
-    kerf_width: u32,
-    cut: CutInstance,
-    h: BaselineGuillotineHeuristic,
     inserted: Inserted,
     p: Progress,
 ) -> Progress
-    requires { TakeableIn at plan.old guide.old inserted p }
-    ensures { TakesIn at kerf_width cut h inserted p plan.old plan.new guide.old guide.new result }
+    requires { Takeable at plan.old guide.old inserted.free_rect inserted.fit p }
+    ensures { Takes at kerf_width cut h inserted.free_rect inserted.fit inserted.merged p plan.old plan.new guide.old guide.new result }
 {
-    match inserted {
-        Inserted::Nothing => p,
-        Inserted::At {
-            index: _,
-            free_rect,
-            fit,
-            merged,
-        } => take_piece(
-            plan, at, guide, kerf_width, cut, h, free_rect, fit, merged, p,
-        ),
+    let free_rect = inserted.free_rect;
+    let placed = inserted.fit.rect;
+    let direction = choice::split_direction(free_rect, placed, h.split);
+    let merged = inserted.merged;
+    let nodes = guide::next_guide(
+        guide, p.nodes, merged, free_rect, placed, cut, direction, kerf_width,
+    );
+    plan_words::put_piece(plan, at + 9 * p.pieces, cut, inserted.fit);
+    Progress {
+        pieces: p.pieces + 1,
+        nodes,
+        placed: p.placed + numbers::area(placed.width, placed.length),
     }
 }
 
@@ -130,9 +103,10 @@ fn replay_word(
     let s = rows::stock_at(stock, board as usize);
     let cut = rows::cut_at(cuts, candidate::cut_of(word) as usize);
     let h = candidate::row_of(word);
-    let pattern = s.pattern;
-    let inserted = guillotine::try_insert(rects, n.kerf_width, pattern, cut, h);
-    take_inserted(plan, at, guide, n.kerf_width, cut, h, inserted, p)
+    match guillotine::try_insert(rects, n.kerf_width, s.pattern, cut, h) {
+        None => p,
+        Some(inserted) => take_piece(plan, at, guide, n.kerf_width, cut, h, inserted, p),
+    }
 }
 
 // The whole making, from the bare board.
@@ -154,24 +128,21 @@ fn replay_sheet(
 {
     let s = rows::stock_at(stock, board as usize);
     let mut p = bare_board(rects, guide, s, n.kerf_width);
-    let mut i: usize = 0;
-    while i < insertions.len() {
+    for i in 0..insertions.len() {
         p = replay_word(
             plan, at, rects, guide, stock, cuts, n, insertions, board, i, p,
         );
-        i += 1;
     }
     p
 }
 
 // ---- the sheet's words
 
-// A body's end in the plan, and the areas that fitness needs.
+// A body's end in the plan, and the sheet's areas, which fitness needs.
 #[derive(Drop)]
 pub struct Body {
     pub end: usize,
-    pub placed: u64,
-    pub area: u64,
+    pub areas: SheetAreas,
 }
 
 // What follows the pieces, and the words before them.
@@ -189,8 +160,9 @@ fn finish_sheet(
     let behind = at + 10 + 9 * p.pieces;
     let waste = plan_words::put_waste(plan, behind, rects);
     let nodes = behind + 4 * waste;
-    guide::put_nodes(plan, nodes, guide, p.nodes);
-    let saw = saw::saw_length(guide, p.nodes);
+    let guide_words = &guide[..8 * p.nodes];
+    copying::put_words(plan, nodes, guide_words);
+    let saw = saw::saw_length(guide_words);
     let area = numbers::area(stock.width, stock.length);
     let share = saw::used(p.placed, area);
     plan_words::put_head(
@@ -205,8 +177,10 @@ fn finish_sheet(
     );
     Body {
         end: nodes + 8 * p.nodes,
-        placed: p.placed,
-        area: area,
+        areas: SheetAreas {
+            placed: p.placed,
+            board: area,
+        },
     }
 }
 

@@ -1,2 +1,1 @@
 pub mod Remainders
-pub mod Rests

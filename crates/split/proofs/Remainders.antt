@@ -1,5 +1,5 @@
 -- What a split leaves: at most one rectangle each way, in range.
-use Rattle.std.specs.Prelude.{if◌then◌else◌}
+use Rattle.std.specs.Prelude.{if◌then◌else◌, Option, Some, None, option_to_list}
 use Prim.Native.Nat.{ℕ, ◌-◌, ◌≤◌, ◌<◌}
 use native.Mathlib.Omega.{arith}
 use mathlib.Core.Path.{◌≡◌, refl}
@@ -14,14 +14,11 @@ use Rattle.model.specs.declared.Rect.{Rect}
 use Rattle.model.specs.declared.Direction.{Direction}
 use Rattle.model.specs.Types.{no_rect}
 use Rattle.model.specs.Split.{bottom_remainder, right_remainder, bottom_width, right_length, split_free_rect}
-use Rattle.split.specs.declared.Remainder.{Remainder}
-use Rattle.split.specs.declared.Remainder.TheVariants.{Nothing, One}
-use Rattle.split.specs.Remainders.{remainder_of}
 use Rattle.split.specs.Bounds.{Small, Inside}
 
-pub remainder_one : (r : Remainder) → length (remainder_of r) ≤ 1
-remainder_one Nothing = omega arith
-remainder_one (One r) = omega arith
+pub remainder_one : (r : Option Rect) → length (option_to_list r) ≤ 1
+remainder_one None = omega arith
+remainder_one (Some r) = omega arith
 
 one_small : (b : Bool) (r : Rect) → (b ≡ true → Small r) → All Small (if b then r ∷ [] else [])
 one_small true r p = (p refl, tt)

@@ -1,10 +1,10 @@
 // What a split leaves of a free rectangle (`split_horizontal`, `split_vertical`): the remainder below the piece and the one to its right.
 #![tactic(auto)]
 
-ghost use Rattle.std.specs.Prelude.{◌≡◌, ◌+◌, ◌≤◌};
+ghost use Rattle.std.specs.Prelude.{◌≡◌, ◌+◌, ◌≤◌, option_to_list};
 ghost use Rattle.model.specs.Refusal.{most_side};
 ghost use Rattle.model.specs.Split.{bottom_remainder, right_remainder, bottom_width, right_length};
-ghost use Rattle.split.specs.Remainders.{remainder_of, rest_of, rest_behind};
+ghost use Rattle.split.specs.Remainders.{rest_behind};
 ghost use Rattle.split.specs.Bounds.{Small, Inside};
 
 use model::{Direction, Rect};
@@ -28,73 +28,55 @@ fn right_length(direction: Direction, free_rect: Rect, placed: Rect) -> u32
     }
 }
 
-// What is left of a side, where it begins and how long it is.
-#[derive(Clone, Copy)]
-enum Rest {
-    Nothing,
-    From(u32, u32),
-}
-
-// Behind the piece the kerf is lost; what is left counts only if it is larger than that.
-fn rest_of_side(start: u32, side: u32, placed: u32, kerf_width: u32) -> Rest
+// Behind the piece the kerf is lost; what is left of the side counts only if it is larger than that: where it begins, and how long it is.
+fn rest_of_side(start: u32, side: u32, placed: u32, kerf_width: u32) -> Option<(u32, u32)>
     requires { (placed ≤ side) × (start + side ≤ most_side) }
-    ensures { rest_of result ≡ rest_behind kerf_width start side placed }
+    ensures { option_to_list result ≡ rest_behind kerf_width start side placed }
 {
     let remaining = side - placed;
     if kerf_width < remaining {
-        Rest::From(start + placed + kerf_width, remaining - kerf_width)
+        Some((start + placed + kerf_width, remaining - kerf_width))
     } else {
-        Rest::Nothing
+        None
     }
 }
 
-// A remainder of a split, if it is larger than the kerf.
-#[derive(Clone, Copy)]
-pub enum Remainder {
-    Nothing,
-    One(Rect),
-}
-
-// What is left below the piece.
+// What is left below the piece, if it is larger than the kerf.
+#[tactic(auto, unfolding(model::specs::Split::bottom_remainder))]
 pub fn bottom_remainder(
     free_rect: Rect,
     placed: Rect,
     kerf_width: u32,
     direction: Direction,
-) -> Remainder
+) -> Option<Rect>
     requires { Small free_rect × Inside placed free_rect }
-    ensures { remainder_of result ≡ bottom_remainder kerf_width free_rect placed (bottom_width direction free_rect placed) }
+    ensures { option_to_list result ≡ bottom_remainder kerf_width free_rect placed (bottom_width direction free_rect placed) }
 {
-    let width = bottom_width(direction, free_rect, placed);
-    match rest_of_side(free_rect.y, free_rect.length, placed.length, kerf_width) {
-        Rest::Nothing => Remainder::Nothing,
-        Rest::From(y, length) => Remainder::One(Rect {
-            x: free_rect.x,
-            y: y,
-            width: width,
-            length: length,
-        }),
-    }
+    let (y, length) = rest_of_side(free_rect.y, free_rect.length, placed.length, kerf_width)?;
+    Some(Rect {
+        x: free_rect.x,
+        y,
+        width: bottom_width(direction, free_rect, placed),
+        length,
+    })
 }
 
-// What is left to its right.
+// What is left to its right, if it is larger than the kerf. One function for both sides would pick each field by the side, so there are two.
+#[tactic(auto, unfolding(model::specs::Split::right_remainder))]
 pub fn right_remainder(
     free_rect: Rect,
     placed: Rect,
     kerf_width: u32,
     direction: Direction,
-) -> Remainder
+) -> Option<Rect>
     requires { Small free_rect × Inside placed free_rect }
-    ensures { remainder_of result ≡ right_remainder kerf_width free_rect placed (right_length direction free_rect placed) }
+    ensures { option_to_list result ≡ right_remainder kerf_width free_rect placed (right_length direction free_rect placed) }
 {
-    let length = right_length(direction, free_rect, placed);
-    match rest_of_side(free_rect.x, free_rect.width, placed.width, kerf_width) {
-        Rest::Nothing => Remainder::Nothing,
-        Rest::From(x, width) => Remainder::One(Rect {
-            x: x,
-            y: free_rect.y,
-            width: width,
-            length: length,
-        }),
-    }
+    let (x, width) = rest_of_side(free_rect.x, free_rect.width, placed.width, kerf_width)?;
+    Some(Rect {
+        x,
+        y: free_rect.y,
+        width,
+        length: right_length(direction, free_rect, placed),
+    })
 }

@@ -17,7 +17,7 @@ fn get_words(block: &[u32], at: usize, n: usize) -> [u32; 64]
     ensures { result ≡ filled (part block.now at n) }
 {
     let mut words = [0u32; 64];
-    copying::put_words(&mut words, 0, &block[at..], n);
+    copying::put_words(&mut words, 0, &block[at..at + n]);
     words
 }
 
@@ -28,9 +28,9 @@ pub fn store_at(ws: &mut [u32], slot: usize, c: Candidate)
     let at = STORED * slot;
     ws[at] = c.sheets as u32;
     ws[at + 1] = c.placed as u32;
-    copying::put_words(ws, at + 2, &c.boards, 64);
-    copying::put_words(ws, at + 66, &c.insertions, c.placed);
-    copying::put_words(ws, at + 66 + c.placed, &c.unused, c.unused_count);
+    copying::put_words(ws, at + 2, &c.boards);
+    copying::put_words(ws, at + 66, &c.insertions[..c.placed]);
+    copying::put_words(ws, at + 66 + c.placed, &c.unused[..c.unused_count]);
 }
 
 // A slot's candidate of so many cuts.
@@ -42,9 +42,9 @@ fn load(block: &[u32], cuts: usize) -> Candidate
     let placed = block[1] as usize;
     Candidate {
         boards: get_words(block, 2, 64),
-        sheets: sheets,
+        sheets,
         insertions: get_words(block, 66, placed),
-        placed: placed,
+        placed,
         unused: get_words(block, 66 + placed, cuts - placed),
         unused_count: cuts - placed,
     }
@@ -63,11 +63,6 @@ pub fn copy_stored(ws: &mut [u32], from: usize, to: usize)
     requires { (slot_words * from + slot_words ≤ length ws.old) × (slot_words * to + slot_words ≤ length ws.old) }
     ensures { ws.new ≡ patch ws.old (slot_words * to) (slot_of ws.old from) }
 {
-    let a = STORED * from;
-    let b = STORED * to;
-    let mut i: usize = 0;
-    while i < STORED {
-        ws[b + i] = ws[a + i];
-        i += 1;
-    }
+    let at = STORED * from;
+    ws.copy_within(at..at + STORED, STORED * to);
 }

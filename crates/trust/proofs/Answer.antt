@@ -1,4 +1,4 @@
--- The whole: a plan is the words of a winner, and that winner has all that demand 3 asks.
+-- The whole: a plan is the words of a winner, and that winner has all that a plan is trusted for.
 use Rattle.std.specs.Prelude.{if◌then◌else◌}
 use Prim.Native.Nat.{ℕ}
 use mathlib.Core.Path.{◌≡◌, refl, sym, ap, subst}

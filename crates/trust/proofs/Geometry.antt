@@ -11,7 +11,7 @@ use Rattle.model.specs.declared.Rect.{Rect}
 use Rattle.model.specs.Merge.{below, beside, stacked, joined, merge_adjacent_rects}
 use Rattle.trust.proofs.Truth.{and_split}
 
--- document 01, "a kerf apart": along x or along y, one's start plus its side plus the kerf is at most the other's start
+-- a kerf apart: along x or along y, one's start plus its side plus the kerf is at most the other's start
 pub data Apart (kerf : ℕ) (a b : Rect) : Type 0 where
   left_of : a.x + a.width + kerf ≤ b.x → Apart kerf a b
   right_of : b.x + b.width + kerf ≤ a.x → Apart kerf a b

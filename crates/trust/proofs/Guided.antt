@@ -142,7 +142,7 @@ making_guide kerf s t (i ∷ rest) h e b g =
     (making_guide kerf (insert_at kerf s i p) t rest h.1 k (b || merges_any kerf (split_rects kerf s i p)) (insert_guide kerf s i p h.0.0 h.0.1 (best_place_good s i p f) b g))))
     next.first next.rest
 
--- document 01: the guide is present exactly if the sheet had no merge; its leaves are then exactly the pieces and the waste
+-- the guide is present exactly if the sheet had no merge; its leaves are then exactly the pieces and the waste
 pub guide_present : (kerf : ℕ) (stock : StockInstance) (making : List Insertion) (t : GuillotineSheet)
     → All (λ i. (0 < i.cut.width) × (0 < i.cut.length)) making → rebuild kerf stock making ≡ some t → GuideState t (merged_from kerf (new_sheet stock) making)
 unfolding rebuild

@@ -106,7 +106,7 @@ prefiltered rows file k which e = checks (file_refusal file) refl (ap number_of 
     checks (some j) f h = absurd (omega (arith, large, h, file_number file j f))
     checks none f h = (f, asked (is_empty (asked_by file).cuts) h)
 
--- document 01: at 15 and 16 no layout that obeys demand 3's piece rules exists
+-- at refusals 15 and 16 no layout that obeys the rules of pieces exists
 pub no_plan : (rows : List BaselineGuillotineHeuristic) (file words : List ℕ) (k : ℕ) → (k ≡ 15) ⊎ (k ≡ 16) → answer_with rows file ≡ refused k → PieceRules file words → ⊥
 no_plan rows file words k which e o =
     let p = prefiltered rows file k which e in

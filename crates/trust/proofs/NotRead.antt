@@ -1,4 +1,4 @@
--- Document 01, "Plan": words past the last body are not read. What is in the layout stays so, and reads alike, whatever follows it.
+-- Words past a plan's last body are not read. What is in the layout stays so, and reads alike, whatever follows it.
 use Prim.Native.Nat.{ℕ, zero, suc, ◌+◌, ◌≤◌, ◌<◌}
 use native.Mathlib.Omega.{arith}
 use mathlib.Core.Path.{◌≡◌, refl, sym, ap, ◌∙◌}

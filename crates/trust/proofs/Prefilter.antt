@@ -30,7 +30,7 @@ use Rattle.trust.proofs.Choice.{lies_area}
 use Rattle.trust.proofs.Packing.{packed_area}
 use Rattle.trust.proofs.Winner.{Legal}
 
--- pieces on boards: document 01's piece rules, whoever laid them
+-- pieces on boards: the rules of pieces, whoever laid them
 abbrev pub Laid : Type 0
 Laid = StockInstance × List PlacedPiece
 

@@ -1,4 +1,4 @@
--- Words that just break a rule, and the rule that they break, by computation: ★ plans of document 01 ("Boards tried at the edge"), which
+-- Words that just break a rule, and the rule that they break, by computation: ★ plans (boards tried at the edge), which
 -- pass, with one word changed.
 use Prim.Native.Nat.{ℕ}
 use mathlib.Core.Path.{◌≡◌, refl}

@@ -1,4 +1,4 @@
--- What demand 3 asks of a plan, proved of the winner of the definition: boards and panels once, own size, legal grain, inside the board,
+-- What a plan is trusted for, proved of the winner of the definition: boards and panels once, own size, legal grain, inside the board,
 -- a kerf apart, and each sheet the one that its making builds.
 use Prim.Native.Nat.{ℕ, ◌<◌}
 use mathlib.Core.Path.{◌≡◌}

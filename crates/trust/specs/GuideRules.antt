@@ -1,4 +1,4 @@
--- The guide of a sheet, over its words: document 01, "Sheet", with its use and saw, "Plan".
+-- The guide of a sheet, over its words, with its use and saw.
 use Rattle.std.specs.Prelude.{ℕ, ◌+◌, ◌-◌, ◌*◌, ◌/◌, ◌≡◌, Bool, true, false, not, ◌&&◌, ◌||◌, List, [], ◌∷◌, map, T, leb, eqb, if◌then◌else◌}
 use Rattle.std.proofs.Math.Option.{none, some}
 use Rattle.lists.specs.Base.{sum, retain, is_empty}

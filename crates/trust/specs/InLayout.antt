@@ -1,4 +1,4 @@
--- Document 01, "Plan": which words are in the layout. Nothing past the last body is read.
+-- Which words are in the layout of a plan. Nothing past the last body is read.
 use Rattle.std.specs.Prelude.{ℕ, zero, suc, ◌+◌, ◌*◌, Bool, true, false, ◌&&◌, ◌||◌, List, [], ◌∷◌, T, leb, ltb, eqb, length, if◌then◌else◌}
 use Rattle.lists.specs.Base.{all, is_empty, range}
 use Rattle.model.specs.Plan.{entry_of, sheet_part}

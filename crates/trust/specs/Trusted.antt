@@ -1,4 +1,4 @@
--- Demand 3 over the words of a plan: document 01, "What the marker counts".
+-- What a plan can be trusted for, over its words: what a marker counts.
 use Rattle.std.specs.Prelude.{ℕ, ◌+◌, ◌*◌, ◌≡◌, List, [], ◌∷◌, ◌++◌, map, T, if◌then◌else◌}
 use Rattle.lists.specs.Base.{sum, all, is_empty}
 use Rattle.model.specs.declared.BaselineGuillotineHeuristic.{BaselineGuillotineHeuristic}

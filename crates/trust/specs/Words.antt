@@ -1,4 +1,4 @@
--- The words of a plan read back by position: document 01, "Plan". Any words can be read so; `InLayout` says which have the layout.
+-- The words of a plan read back by position. Any words can be read so; `InLayout` says which have the layout.
 use Rattle.std.specs.Prelude.{ℕ, zero, suc, ◌+◌, ◌*◌, ◌^◌, List, [], ◌∷◌, map, get_or, take, drop}
 use Rattle.lists.specs.Base.{range, concat_map}
 use Rattle.model.specs.declared.Rect.{Rect}
@@ -42,7 +42,7 @@ unfoldable pub rows : ℕ → ℕ → List ℕ → List (List ℕ)
 rows size zero words = []
 rows size (suc n) words = take size words ∷ rows size n (drop size words)
 
--- the sizes of document 01: a body's words before its pieces, and those of a piece, a waste rectangle and a node
+-- sizes: a body's words before its pieces, and those of a piece, a waste rectangle and a node
 abbrev pub head_size : ℕ
 head_size = 10
 

@@ -2,7 +2,7 @@
 use Prim.Native.Nat.{ℕ, ◌*◌, ◌≤◌, ◌<◌}
 use native.Mathlib.Omega.{arith}
 use mathlib.Core.Path.{◌≡◌, sym, ap, ◌∙◌, subst}
-use mathlib.Core.Bool.{true, false, false≢true}
+use mathlib.Core.Bool.{true, false}
 use mathlib.Core.List.{List, [], ◌∷◌, map}
 use mathlib.Core.Option.{Option, none, some}
 use lib.ListN.{length, get_or, take}
@@ -11,7 +11,6 @@ use Rattle.lists.proofs.Sums.{length-map}
 use Rattle.lists.proofs.Options.{none_by, some_by}
 use Rattle.lists.proofs.Booleans.{and_true}
 use Rattle.model.specs.declared.BaselineGuillotineHeuristic.{BaselineGuillotineHeuristic}
-use Rattle.model.specs.Candidate.{Candidate}
 use Rattle.model.specs.Sheet.{GuillotineSheet, rebuild}
 use Rattle.model.specs.Expand.{ProblemInstance}
 use Rattle.model.specs.Search.{child_of}
@@ -26,14 +25,7 @@ use Rattle.placing.specs.Rebuilding.{rebuilds_all, Rebuildable}
 use Rattle.evaluation.specs.OnSheets.{IsBestDonor}
 use Rattle.variation.specs.Donated.{with_insertions, with_unused_cuts, donated, others_than, index_of, child_sheet, child_words}
 use Rattle.variation.proofs.Crossed.{Ready, child_ready, child_of_lem, child_none, child_some, child_stands}
-use Rattle.variation.specs.Children.{sheet_of, IsChild}
-
-module _ (inst : ProblemInstance) (o : Option Candidate) (c : Words) where
-  pub no_child : o ≡ none → IsChild inst o (record { found = false; candidate = c })
-  no_child e = record { found = ap is_some (sym e); is = λ f. absurd (false≢true f); stands = λ f. absurd (false≢true f) }
-
-  pub one_child : o ≡ some (candidate_in inst c) → Stands inst [] c → IsChild inst o (record { found = true; candidate = c })
-  one_child e s = record { found = ap is_some (sym e); is = λ f. e; stands = λ f. s }
+use Rattle.variation.specs.Children.{sheet_of}
 
 -- the rebuilding of one board
 pub one_board_lem : (inst : ProblemInstance) (words : List ℕ) (b : ℕ) → rebuilds_all inst words (b ∷ []) ≡ is_some (rebuild inst.kerf_width (board_in inst b) (making_in inst words b))

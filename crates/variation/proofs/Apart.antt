@@ -6,7 +6,8 @@ use mathlib.Core.Path.{◌≡◌, refl, sym, ap, ◌∙◌, subst, subst₂}
 use mathlib.Core.Bool.{Bool, true, false, not}
 use mathlib.Core.List.{List, [], ◌∷◌, ◌++◌, map, append-nil, append_assoc}
 use lib.Dec.{eqb}
-use lib.ListN.{length, get_or, set, take, length-append, length-set}
+use lib.ListN.{length, get_or, set, take, length-append, length-set, length-take}
+use lib.Seq.{take-length}
 use borrow.Author.Tests.{eq-eqb, ne_eqb}
 use Rattle.lists.specs.Base.{retain}
 use Rattle.lists.proofs.Sums.{map_append}
@@ -14,7 +15,7 @@ use Rattle.lists.proofs.Kept.{retain_append}
 use Rattle.lists.proofs.Arrays.{take_next, take_push}
 use Rattle.candidate.specs.declared.Candidate.{Candidate as Words}
 use Rattle.candidate.specs.Entries.{board_of, cut_of, on_board}
-use Rattle.candidate.specs.Stands.{unused_numbers}
+use Rattle.candidate.specs.Stands.{placed_words, unused_numbers}
 use Rattle.candidate.proofs.Makings.{on_same, on_other}
 use Rattle.variation.specs.Compact.{off_board, TakenApart}
 
@@ -59,10 +60,10 @@ pub record Sorted (c : Words) (board i : ℕ) (after : Words) (kept unused : ℕ
   pub sheets : after.sheets ≡ c.sheets
   pub insertions_room : length after.insertions ≡ 64
   pub unused_room : length after.unused ≡ 64
-  pub insertions : take kept after.insertions ≡ off_board board (take i c.insertions)
-  pub placed : kept ≡ length (off_board board (take i c.insertions))
-  pub cuts : take unused after.unused ≡ unused_numbers c ++ map cut_of (on_board board (take i c.insertions))
-  pub count : unused ≡ c.unused_count + length (on_board board (take i c.insertions))
+  pub insertions : take kept after.insertions ≡ off_board board (take i (placed_words c))
+  pub placed : kept ≡ length (off_board board (take i (placed_words c)))
+  pub cuts : take unused after.unused ≡ unused_numbers c ++ map cut_of (on_board board (take i (placed_words c)))
+  pub count : unused ≡ c.unused_count + length (on_board board (take i (placed_words c)))
   pub whole : kept + unused ≡ i + c.unused_count
 
 pub sorted_same : (c : Words) (board i : ℕ) (after after' : Words) (kept kept' unused unused' : ℕ) → after ≡ after' → kept ≡ kept' → unused ≡ unused'
@@ -84,13 +85,13 @@ sorted_none c board p q =
       whole = omega arith;
     }
 
-module _ (c : Words) (board i : ℕ) (after : Words) (kept unused : ℕ) (room : length c.insertions ≡ 64) (here : i < c.placed) (few : c.placed + c.unused_count ≤ 64)
+module _ (c : Words) (board i : ℕ) (after : Words) (kept unused : ℕ) (here : i < length (placed_words c)) (few : c.placed + c.unused_count ≤ 64)
     (so_far : Sorted c board i after kept unused) where
   abbrev w : ℕ
-  w = get_or c.insertions i 0
+  w = get_or (placed_words c) i 0
 
-  known : i < length c.insertions
-  known = omega arith
+  known : i < c.placed
+  known = omega (arith, length-take c.placed c.insertions)
 
   -- an insertion on the board
   pub sorted_out : (cut : ℕ) → cut ≡ cut_of w → board_of w ≡ board
@@ -103,9 +104,9 @@ module _ (c : Words) (board i : ℕ) (after : Words) (kept unused : ℕ) (room :
         unused_count = after.unused_count;
       }) kept (unused + 1)
   sorted_out cut e there =
-      let on = on_here c.insertions board i known there in
-      let off = off_here c.insertions board i known there in
-      let earlier : List ℕ = on_board board (take i c.insertions) in
+      let on = on_here (placed_words c) board i here there in
+      let off = off_here (placed_words c) board i here there in
+      let earlier : List ℕ = on_board board (take i (placed_words c)) in
       record {
         boards = so_far.boards;
         sheets = so_far.sheets;
@@ -114,7 +115,7 @@ module _ (c : Words) (board i : ℕ) (after : Words) (kept unused : ℕ) (room :
         insertions = so_far.insertions ∙ sym off;
         placed = so_far.placed ∙ ap length (sym off);
         cuts =
-            stored after.unused _ unused cut (omega (arith, so_far.unused_room, so_far.whole)) so_far.cuts
+            stored after.unused _ unused cut (omega (arith, so_far.unused_room, so_far.whole, known)) so_far.cuts
             ∙ append_assoc (unused_numbers c) (map cut_of earlier) (cut ∷ [])
             ∙ ap (λ (k : ℕ). unused_numbers c ++ (map cut_of earlier ++ (k ∷ []))) e
             ∙ ap (λ (r : List ℕ). unused_numbers c ++ r) (sym (ap (map cut_of) on ∙ map_append cut_of earlier (w ∷ [])));
@@ -133,22 +134,22 @@ module _ (c : Words) (board i : ℕ) (after : Words) (kept unused : ℕ) (room :
         unused_count = after.unused_count;
       }) (kept + 1) unused
   sorted_kept aside =
-      let on = on_aside c.insertions board i known aside in
-      let off = off_aside c.insertions board i known aside in
-      let earlier : List ℕ = off_board board (take i c.insertions) in
+      let on = on_aside (placed_words c) board i here aside in
+      let off = off_aside (placed_words c) board i here aside in
+      let earlier : List ℕ = off_board board (take i (placed_words c)) in
       record {
         boards = so_far.boards;
         sheets = so_far.sheets;
         insertions_room = simp length-set so_far.insertions_room;
         unused_room = so_far.unused_room;
-        insertions = stored after.insertions earlier kept w (omega (arith, so_far.insertions_room, so_far.whole, so_far.count)) so_far.insertions ∙ sym off;
+        insertions = stored after.insertions earlier kept w (omega (arith, so_far.insertions_room, so_far.whole, so_far.count, known)) so_far.insertions ∙ sym off;
         placed = omega (arith, so_far.placed, ap length off, length-append earlier (w ∷ []));
         cuts = so_far.cuts ∙ ap (λ (r : List ℕ). unused_numbers c ++ map cut_of r) (sym on);
         count = so_far.count ∙ ap (λ (r : List ℕ). c.unused_count + length r) (sym on);
         whole = omega (arith, so_far.whole);
       }
 
-pub sorted_all : (c : Words) (board i : ℕ) (after : Words) (kept unused : ℕ) → i ≡ c.placed → Sorted c board i after kept unused
+pub sorted_all : (c : Words) (board i : ℕ) (after : Words) (kept unused : ℕ) → i ≡ length (placed_words c) → Sorted c board i after kept unused
     → TakenApart c board (record {
       boards = after.boards;
       sheets = after.sheets;
@@ -158,11 +159,12 @@ pub sorted_all : (c : Words) (board i : ℕ) (after : Words) (kept unused : ℕ)
       unused_count = unused;
     })
 sorted_all c board i after kept unused e s =
+    let all : take i (placed_words c) ≡ placed_words c = ap (λ (n : ℕ). take n (placed_words c)) e ∙ take-length (placed_words c) in
     record {
       boards = s.boards;
       sheets = s.sheets;
-      insertions = s.insertions ∙ ap (λ (n : ℕ). off_board board (take n c.insertions)) e;
-      placed = s.placed ∙ ap (λ (n : ℕ). length (off_board board (take n c.insertions))) e;
-      unused = s.cuts ∙ ap (λ (n : ℕ). unused_numbers c ++ map cut_of (on_board board (take n c.insertions))) e;
-      count = s.count ∙ ap (λ (n : ℕ). c.unused_count + length (on_board board (take n c.insertions))) e;
+      insertions = s.insertions ∙ ap (off_board board) all;
+      placed = s.placed ∙ ap (λ (l : List ℕ). length (off_board board l)) all;
+      unused = s.cuts ∙ ap (λ (l : List ℕ). unused_numbers c ++ map cut_of (on_board board l)) all;
+      count = s.count ∙ ap (λ (l : List ℕ). c.unused_count + length (on_board board l)) all;
     }

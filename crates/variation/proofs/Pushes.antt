@@ -1,18 +1,20 @@
 -- Insertions and unused cuts pushed one after the other, as the loops push them.
-use Rattle.std.specs.Prelude.{if◌then◌else◌}
+use Rattle.std.specs.Prelude.{if◌then◌else◌, ◌==◌, position, Some}
+use Rattle.std.specs.List.{position_or_len}
+use Rattle.std.proofs.lemmas.Bool.{lt-ltb}
+use Rattle.std.proofs.lemmas.List.Recursion.{is_position_or_len}
 use Prim.Native.Nat.{ℕ, suc, ◌+◌, ◌≤◌, ◌<◌}
 use native.Mathlib.Numerals.{add-one}
 use native.Mathlib.Omega.{arith}
 use mathlib.Core.Path.{◌≡◌, refl, sym, ap, ◌∙◌}
 use mathlib.Core.Bool.{Bool, true, false, not}
 use mathlib.Core.List.{List, [], ◌∷◌, ◌++◌, map, append-nil, append_assoc}
-use lib.ListN.{length, get_or, take, drop, length-set, drop_of_length-le}
-use borrow.Author.Tests.{eq-eqb, ne_eqb}
+use lib.ListN.{length, get_or, take, length-set}
 use Rattle.lists.specs.Base.{foldl, retain, count_from, range}
 use Rattle.lists.proofs.Sums.{map_append}
 use Rattle.lists.proofs.Kept.{retain_append}
 use Rattle.lists.proofs.Counts.{count_snoc}
-use Rattle.lists.proofs.Arrays.{drop_next, take_next, take_push}
+use Rattle.lists.proofs.Arrays.{take_next, take_push}
 use Rattle.lists.proofs.Maps.{foldl_snoc}
 use Rattle.model.specs.declared.BaselineGuillotineHeuristic.{BaselineGuillotineHeuristic}
 use Rattle.candidate.specs.declared.Candidate.{Candidate as Words}
@@ -116,20 +118,18 @@ module _ (k : Words) (ks : List ℕ) (i : ℕ) (after : Words) (so_far : after �
   pub others_same : elem i ks ≡ true → after ≡ with_unused_cuts k (others_than ks (i + 1))
   others_same e = so_far ∙ ap (with_unused_cuts k) (sym (others_next true e ∙ append-nil (others_than ks i)))
 
--- ---- the loop over the boards
+-- ---- the place of a board
 
-module _ (x : ℕ) (l : List ℕ) (i : ℕ) where
-  pub index_hit : i < length l → get_or l i 0 ≡ x → index_of x (drop i l) ≡ 0
-  unfolding index_of
-  index_hit h e = rw (drop_next l i 0 h, eq-eqb (get_or l i 0) x e)
+index_next : (x y : ℕ) (ys : List ℕ) → index_of x (y ∷ ys) ≡ (if y == x then 0 else (1 + index_of x ys))
+unfolding index_of
+index_next x y ys = let one : suc (index_of x ys) ≡ 1 + index_of x ys = omega arith in ap (λ (n : ℕ). if y == x then 0 else n) one
 
-  pub index_miss : i < length l → (get_or l i 0 ≡ x → ⊥) → index_of x (drop i l) ≡ suc (index_of x (drop (i + 1) l))
-  unfolding index_of
-  index_miss h e = rw (drop_next l i 0 h, ne_eqb (get_or l i 0) x e)
-
-  pub index_end : length l ≤ i → index_of x (drop i l) ≡ 0
-  unfolding index_of
-  index_end h = rw (drop_of_length-le l h)
+-- `position` of the language
+pub position_is : (x : ℕ) (l : List ℕ) → index_of x l < length l → position (λ b. b == x) l ≡ Some (index_of x l)
+unfolding index_of
+position_is x l h =
+    let same : index_of x l ≡ position_or_len (λ b. b == x) l = is_position_or_len (index_of x) (λ b. b == x) refl (index_next x) l in
+    rw (← same) (rw (lt-ltb (index_of x l) (length l) h) refl)
 
 -- ---- in range
 

@@ -2,7 +2,7 @@
 // second gives its fittest sheet and the first its boards (`crossover_child_from_donor_bin`).
 #![tactic(auto)]
 
-ghost use Rattle.std.specs.Prelude.{◌≡◌, [], ◌∷◌, map, ◌*◌, ◌≤◌, ◌<◌, ◌+◌, length};
+ghost use Rattle.std.specs.Prelude.{◌≡◌, ◌==◌, [], ◌∷◌, map, ◌*◌, ◌≤◌, ◌<◌, ◌+◌, length, position};
 ghost use Rattle.lists.specs.Base.{is_some};
 ghost use Rattle.model.specs.Sheet.{rebuild};
 ghost use Rattle.candidate.specs.Stands.{instance_in, Tables, board_in, making_in, placed_words, candidate_in, Stands};
@@ -25,13 +25,7 @@ fn return_stock(boards: [u32; 64], count: usize, index: usize) -> [u32; 64]
     ensures { result ≡ put_back boards count index }
 {
     let mut after = boards;
-    let board = after[index];
-    let mut i = index;
-    while i + 1 < count {
-        after[i] = after[i + 1];
-        i += 1;
-    }
-    after[i] = board;
+    after[index..count].rotate_left(1);
     after
 }
 
@@ -43,17 +37,14 @@ fn take_apart(c: Candidate, board: u32) -> Candidate
     let mut after = c;
     let mut kept: usize = 0;
     let mut unused = c.unused_count;
-    let mut i: usize = 0;
-    while i < c.placed {
-        let word = c.insertions[i];
-        if candidate::board_of(word) == board {
-            after.unused[unused] = candidate::cut_of(word);
+    for word in &c.insertions[..c.placed] {
+        if candidate::board_of(*word) == board {
+            after.unused[unused] = candidate::cut_of(*word);
             unused += 1;
         } else {
-            after.insertions[kept] = word;
+            after.insertions[kept] = *word;
             kept += 1;
         }
-        i += 1;
     }
     after.placed = kept;
     after.unused_count = unused;
@@ -74,11 +65,10 @@ pub fn compact_worst_bin_for_repair(
     if sheets < 2 {
         return c;
     }
-    let index = evaluation::worst_bin_index(evaluation::sheet_areas(stock, cuts, inst, c), sheets);
-    let board = c.boards[index];
-    let boards = return_stock(c.boards, inst.stock, index);
-    let mut after = take_apart(c, board);
-    after.boards = boards;
+    let areas = evaluation::sheet_areas(stock, cuts, inst, c);
+    let index = evaluation::worst_bin_index(&areas[..sheets]);
+    let mut after = take_apart(c, c.boards[index]);
+    after.boards = return_stock(c.boards, inst.stock, index);
     after.sheets = sheets - 1;
     after
 }
@@ -96,13 +86,10 @@ fn donor_insertions(
     ensures { result ≡ with_insertions c (donated (placed_words donor) board h) }
 {
     let mut after = c;
-    let mut i: usize = 0;
-    while i < donor.placed {
-        let word = donor.insertions[i];
-        if candidate::board_of(word) == board {
-            after = candidate::push_insertion(after, board, candidate::cut_of(word), h);
+    for word in &donor.insertions[..donor.placed] {
+        if candidate::board_of(*word) == board {
+            after = candidate::push_insertion(after, board, candidate::cut_of(*word), h);
         }
-        i += 1;
     }
     after
 }
@@ -113,40 +100,23 @@ fn others_unused(c: Candidate, cuts: usize) -> Candidate
     ensures { result ≡ with_unused_cuts c (others_than (map cut_of (placed_words c)) cuts) }
 {
     let keys = evaluation::placed_cuts(c);
-    let count = c.placed;
     let mut after = c;
-    let mut i: usize = 0;
-    while i < cuts {
-        if !evaluation::contains_key(&keys[..count], i as u32) {
-            after = candidate::push_unused(after, i as u32);
+    for cut in 0..cuts as u32 {
+        if !keys[..c.placed].contains(&cut) {
+            after = candidate::push_unused(after, cut);
         }
-        i += 1;
     }
     after
 }
 
-// The index of a board; past the last, if it is not there.
-fn index_of(boards: &[u32], board: u32) -> usize
-    ensures { result ≡ index_of board boards.now }
+// The index of a board, if it is there.
+fn index_of(boards: &[u32], board: u32) -> Option<usize>
+    ensures { result ≡ position (λ b. b == board) boards.now }
 {
-    let mut i: usize = 0;
-    while i < boards.len() {
-        if boards[i] == board {
-            return i;
-        }
-        i += 1;
-    }
-    i
+    boards.iter().position(|b| *b == board)
 }
 
 // ---- crossover: the child
-
-// The child, if there is one.
-#[derive(Drop)]
-pub struct Child {
-    pub found: bool,
-    pub candidate: Candidate,
-}
 
 // Whether the insertions of `made` find their places on the bare board.
 fn rebuild_board(
@@ -161,10 +131,8 @@ fn rebuild_board(
     ensures { (result ≡ is_some (rebuild inst.kerf_width (board_in (instance_in stock.now cuts.now inst) board) (making_in (instance_in stock.now cuts.now inst) (placed_words made) board)))
         × (behind_blocks free.new ≡ behind_blocks free.old) }
 {
-    let one = [board; 1];
-    let insertions = made.insertions;
-    let placed = made.placed;
-    placing::rebuild(free, stock, cuts, inst, &one, &insertions[..placed])
+    let insertions = &made.insertions[..made.placed];
+    placing::rebuild(free, stock, cuts, inst, &[board], insertions)
 }
 
 // The sheet alone, on its board, before the other boards of the first parent.
@@ -172,16 +140,14 @@ fn child_sheet(left: Candidate, made: Candidate, board: u32) -> Candidate
     requires { index_of board left.boards < 64 }
     ensures { result ≡ sheet_of left made board }
 {
-    let boards = left.boards;
-    let from = index_of(&boards, board);
-    let moved = candidate::move_board(boards, from, 0);
+    let from = index_of(&left.boards, board).unwrap();
     let mut after = made;
-    after.boards = moved;
+    after.boards = candidate::move_board(left.boards, from, 0);
     after.sheets = 1;
     after
 }
 
-// The child of a donor's sheet, by its index.
+// The child of a donor's sheet, by its index, if there is one.
 fn child_of_sheet(
     free: &mut [u32],
     stock: &[u32],
@@ -191,7 +157,7 @@ fn child_of_sheet(
     right: Candidate,
     index: usize,
     h: BaselineGuillotineHeuristic,
-) -> Child
+) -> Option<Candidate>
     requires { Tables stock.now cuts.now inst × Stands (instance_in stock.now cuts.now inst) [] left × Stands (instance_in stock.now cuts.now inst) [] right
         × IsBestDonor (candidate_in (instance_in stock.now cuts.now inst) right).bins index × (261 * 64 ≤ length free.old) }
     ensures { IsChildOf (instance_in stock.now cuts.now inst) h left right result
@@ -201,16 +167,10 @@ fn child_of_sheet(
     let new = candidate::new_candidate();
     let made = donor_insertions(new, right, board, h);
     if !rebuild_board(free, stock, cuts, inst, board, made) {
-        return Child {
-            found: false,
-            candidate: left,
-        };
+        return None;
     }
     let sheet = child_sheet(left, made, board);
-    Child {
-        found: true,
-        candidate: others_unused(sheet, inst.cuts),
-    }
+    Some(others_unused(sheet, inst.cuts))
 }
 
 pub fn crossover_child_from_donor_bin(
@@ -221,7 +181,7 @@ pub fn crossover_child_from_donor_bin(
     left: Candidate,
     right: Candidate,
     h: BaselineGuillotineHeuristic,
-) -> Child
+) -> Option<Candidate>
     requires { Tables stock.now cuts.now inst × Stands (instance_in stock.now cuts.now inst) [] left × Stands (instance_in stock.now cuts.now inst) [] right
         × (261 * 64 ≤ length free.old) }
     ensures { IsChildOf (instance_in stock.now cuts.now inst) h left right result
@@ -229,12 +189,9 @@ pub fn crossover_child_from_donor_bin(
 {
     let sheets = right.sheets;
     if sheets == 0 {
-        return Child {
-            found: false,
-            candidate: left,
-        };
+        return None;
     }
     let areas = evaluation::sheet_areas(stock, cuts, inst, right);
-    let index = evaluation::best_donor_bin_index(areas, sheets);
+    let index = evaluation::best_donor_bin_index(&areas[..sheets]);
     child_of_sheet(free, stock, cuts, inst, left, right, index, h)
 }

@@ -2,97 +2,75 @@
 // bytes, the lowest first. Says how many of the planner's texts are equal, and the first pair that differs.
 #![tactic(auto)]
 
-ghost use Rattle.std.specs.Prelude.{◌≡◌, ◌≤◌, ◌<◌, take, length, IfOk};
-ghost use Rattle.std.specs.Io.KnownBytes.{Consumes, IsAtEnd};
+ghost use Rattle.std.specs.Prelude.{◌≡◌, ◌≤◌, ◌<◌, length};
 
+use append::Buffer;
 use std::io;
-use std::io::Read;
 
-// Where the part that starts at a place ends: past its length and its bytes, or with the corpus.
-fn part_end(corpus: &[u8], at: usize) -> usize
-    requires { at ≤ length corpus.now }
-    ensures { (at ≤ result) × (result ≤ length corpus.now) × (at < length corpus.now → at < result) }
-{
-    let left = corpus.len() - at;
-    if left < 4 {
-        return corpus.len();
-    }
-    let size = numbers::number_4(corpus, at) as usize;
-    if left - 4 < size {
-        return corpus.len();
-    }
-    at + 4 + size
+// What a replay found: how many pairs there are and how many are equal, and the number of the first that differs, counted from one on.
+#[derive(Default, Drop)]
+struct Tally {
+    pairs: usize,
+    equal: usize,
+    first_other: Option<usize>,
 }
 
-// A part's bytes, behind its length.
-fn part(corpus: &[u8], at: usize, end: usize) -> &[u8]
-    requires { (at ≤ end) × (end ≤ length corpus.now) }
+// The part that a corpus begins with, and what is behind it. Where the corpus ends before the part does, the part is what there is.
+fn split_part(corpus: &[u8]) -> (&[u8], &[u8])
+    ensures shorter { 0 < length corpus.now → length result.1.now < length corpus.now }
+    ensures within { length result.1.now ≤ length corpus.now }
 {
-    if end - at < 4 {
-        return &corpus[..0];
+    match corpus.split_first_chunk() {
+        Some((size, rest)) => rest.split_at(rest.len().min(u32::from_le_bytes(*size) as usize)),
+        None => (&[], &[]),
     }
-    &corpus[at + 4..end]
 }
 
 fn is_equal(file: &[u8], text: &[u8]) -> bool {
-    let mut printed = [0u8; 65_536];
-    let end = answer_text::put_answer(file, &mut printed);
-    &printed[..end] == text
+    let mut printed = Buffer::<65_536>::new();
+    answer_text::put_answer(file, &mut printed);
+    printed.as_slice() == text
 }
 
-fn tell(rt: &impl Print, pairs: u64, equal: u64, first: Option<u64>) -> io::Result<()> {
+fn replay(corpus: &[u8]) -> Tally {
+    let mut tally = Tally::default();
+    let mut rest = corpus;
+    while !rest.is_empty() {
+        let (file, behind) = split_part(rest);
+        let (text, behind) = split_part(behind);
+        tally.pairs += 1;
+        if is_equal(file, text) {
+            tally.equal += 1;
+        } else {
+            tally.first_other = tally.first_other.or(Some(tally.pairs));
+        }
+        rest = behind;
+    }
+    tally
+}
+
+fn tell(rt: &impl Print, tally: Tally) -> io::Result<()> {
+    let Tally {
+        pairs,
+        equal,
+        first_other,
+    } = tally;
     println!(rt; "{equal} of {pairs} equal")?;
-    if let Some(pair) = first {
+    if let Some(pair) = first_other {
         println!(rt; "the first that differs is pair {pair}")?;
     }
     Ok(())
 }
 
-fn replay(rt: &impl Print, corpus: &[u8]) -> io::Result<()> {
-    let mut at = 0;
-    let mut pairs: u64 = 0;
-    let mut equal: u64 = 0;
-    let mut first = None;
-    while at < corpus.len() {
-        let middle = part_end(corpus, at);
-        let end = part_end(corpus, middle);
-        pairs += 1;
-        if is_equal(part(corpus, at, middle), part(corpus, middle, end)) {
-            equal += 1;
-        } else if first.is_none() {
-            first = Some(pairs);
-        }
-        at = end;
-    }
-    tell(rt, pairs, equal, first)
-}
-
-// Room for a corpus.
+// Room for a corpus. Where its length is seen, and not said by a contract, the proof of what uses it counts through a million zeros.
 fn room() -> [u8; 1_048_576]
     ensures { 1_048_576 ≡ length result }
 {
     [0; 1_048_576]
 }
 
-// Reads until the buffer is full or the input ends, and says how many bytes it put at the buffer's start.
-fn read_full<R: Read>(input: &mut R, buffer: &mut [u8]) -> io::Result<usize>
-    ensures within { IfOk result (λ size. size ≤ length buffer.new) }
-    ensures bytes { IfOk result (λ size. Consumes (R.remaining input.old) (R.remaining input.new) (take size buffer.new)) }
-    ensures end { IfOk result (λ size. size < length buffer.new → IsAtEnd (R.remaining input.new)) }
-{
-    let mut size = 0;
-    while size < buffer.len() {
-        let count = input.read(&mut buffer[size..])?;
-        if count == 0 {
-            return Ok(size);
-        }
-        size += count;
-    }
-    Ok(size)
-}
-
 fn main(rt: HostRuntime) -> io::Result<()> {
     let mut corpus = room();
-    let size = read_full(&mut rt.stdin(), &mut corpus)?;
-    replay(&rt, &corpus[..size])
+    let size = reading::read_full(&mut rt.stdin(), &mut corpus)?;
+    tell(&rt, replay(&corpus[..size]))
 }

@@ -1,8 +1,12 @@
 -- `answer_text::put_refusal` meets its contract.
-use Rattle.append.proofs.Laws.{appended_then}
+use mathlib.Core.Path.{ap, ◌∙◌}
+use Rattle.append.specs.Appending.{with_bytes}
+use Rattle.append.specs.Numerals.{decimal_of}
+use Rattle.append.proofs.Buffers.{bytes_then}
 use Rattle.answer_text.specs.Text.{refusal_text}
 use Rattle.answer_text.proofs.put_refusal.Goals as goal
 
 pub returns : goal.returns
 unfolding refusal_text
-returns c = appended_then c.put_bytes-named.ensures (appended_then c.put_decimal-told.ensures c.put_byte.ensures)
+returns g c =
+    bytes_then _ _ _ _ c.push_bytes.ensures (bytes_then _ _ _ _ (c.push_decimal.ensures ∙ ap (with_bytes _ _) (ap decimal_of (c.from.ensures ∙ c.number.ensures))) c.push.ensures)

@@ -1,6 +1,6 @@
 -- `append::hex_digit` meets its contract.
 use mathlib.Core.Path.{sym}
-use Rattle.append.proofs.Laws.{hex_digit_low, hex_digit_high}
+use Rattle.append.proofs.Numerals.{hex_digit_low, hex_digit_high}
 use Rattle.append.proofs.hex_digit.Goals as goal
 
 pub returns-then-digit-lt10 : goal.returns-then-digit-lt10

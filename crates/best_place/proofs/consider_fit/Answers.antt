@@ -1,17 +1,16 @@
--- `best_place::consider_fit` meets its contract: the first fit, a lower score, or none of both.
-use mathlib.Core.Path.{sym, ◌∙◌}
+-- `best_place::consider_fit` meets its contract: the best so far, a lower score, or the first fit.
 use Rattle.best_place.proofs.Search.{over_first, over_lower, over_higher}
 use Rattle.best_place.proofs.consider_fit.Goals as goal
 
-pub returns-in-Nothing : goal.returns-in-Nothing
-returns-in-Nothing c = rw c.in-Nothing.is (over_first c.args.heuristic _ _ _ _ c.free_rect_choice_score-score.ensures)
+pub returns-in-Some : goal.returns-in-Some
+returns-in-Some c =
+    let k = rw c.in-Some.is at c.requires in
+    rw c.in-Some.is (over_higher c.args.heuristic _ _ _ c.free_rect_choice_score-score.result c.free_rect_choice_score-score.ensures c.in-Some.least k (cc))
 
-pub returns-then-score_less : goal.returns-then-score_less
-returns-then-score_less c =
-    let k = rw c.in-At.is at c.requires in
-    rw c.in-At.is (over_lower c.args.heuristic _ _ _ _ c.free_rect_choice_score-score.ensures _ _ _ _ k (sym c.score_less.ensures ∙ c.if-score_less.true))
+pub returns-in_default : goal.returns-in_default
+returns-in_default c =
+    let k = rw c.in-Some.is at c.requires in
+    rw c.in-Some.is (over_lower c.args.heuristic _ _ _ c.free_rect_choice_score-score.result c.free_rect_choice_score-score.ensures c.in-Some.least k (cc))
 
-pub returns-else-score_less : goal.returns-else-score_less
-returns-else-score_less c =
-    let k = rw c.in-At.is at c.requires in
-    rw c.in-At.is (over_higher c.args.heuristic _ _ _ _ c.free_rect_choice_score-score.ensures _ _ _ _ k (sym c.score_less.ensures ∙ c.if-score_less.false))
+pub returns-in_default-2 : goal.returns-in_default-2
+returns-in_default-2 c = rw c.in_default.is (over_first c.args.heuristic _ _ _ _ c.free_rect_choice_score-score.ensures)

@@ -1,14 +1,8 @@
--- `best_place::next_fit` meets its contract: from here on the same rectangle is next. The measure is what is left of the count.
-use mathlib.Core.Path.{◌≡◌}
-use Prim.Native.Nat.{◌-◌, ◌≤◌}
-use lib.ListN.{drop}
-use Rattle.best_place.specs.Places.{next_fit}
-use Rattle.rect_words.specs.SheetWords.{rects_in}
+-- The cut fits in none of the rectangles so far.
+use Rattle.std.proofs.Common.{◌≡◌, ℕ, ◌≤◌, ◌<◌, false}
+use Rattle.fits.specs.ByWays.{lies_any_way}
+use Rattle.rect_words.specs.SheetWords.{rect_at}
 use Rattle.best_place.proofs.next_fit.Given as goal
 
 abbrev pub invariant-loop-index : goal.invariant-loop-index
-invariant-loop-index l = (l.index ≤ 65)
-    × (next_fit l.ways l.width l.length l.index (drop l.index (rects_in l.sheet)) ≡ next_fit l.ways l.width l.length l.initial.index (drop l.initial.index (rects_in l.sheet)))
-
-abbrev pub decreases-loop-index : goal.decreases-loop-index
-decreases-loop-index l = l.count - l.index
+invariant-loop-index l = (k : ℕ) → l.from ≤ k → k < l.index → lies_any_way l.ways l.width l.length (rect_at l.sheet k).width (rect_at l.sheet k).length ≡ false

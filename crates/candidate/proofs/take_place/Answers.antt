@@ -12,5 +12,5 @@ returns-then-j-sheets c = c.push_insertion-after.ensures ∙ sym (end_sheet c.ar
 
 pub returns : goal.returns
 returns c =
-    let made = sheet_made c.args.inst.stock c.args.c c.args.j c.args.cut c.args.h _ _ _ c.push_insertion-after.ensures c.move_board-boards.ensures in
+    let made = sheet_made c.args.inst.stock c.args.c c.args.j c.args.cut c.args.h _ _ _ c.push_insertion-after.ensures c.move_board-after.ensures in
     made ∙ sym (end_new c.args.inst.stock c.args.c c.args.j c.args.cut c.args.h (omega arith) (omega arith))

@@ -3,6 +3,4 @@ use Rattle.evaluation.proofs.BestIndex.{donor_index}
 use Rattle.evaluation.proofs.best_donor_bin_index.Goals as goal
 
 pub returns : goal.returns
-returns c =
-    λ bins size of.
-    donor_index c.args.areas bins of _ (rw (← size) at c.first_best.ensures)
+returns c = λ bins of. donor_index c.args.sheets.now bins of _ c.first_best.ensures

@@ -3,4 +3,4 @@ use Rattle.guide.proofs.Guides.{new_became}
 use Rattle.guide.proofs.new_guide.Goals as goal
 
 pub returns : goal.returns
-returns c = new_became c.args.words.now _ c.args.board c.free_node.result c.free_node.ensures c.put_node.ensures
+returns c = new_became c.args.words.now _ c.args.board c.put_node.ensures

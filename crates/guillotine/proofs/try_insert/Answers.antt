@@ -9,10 +9,12 @@ returns-in_default c =
 
 pub insert_at-merged-requires : goal.insert_at-merged-requires
 insert_at-merged-requires c =
-    let f = rw c.in-At.is at c.best_fit.ensures in
-    (c.requires, found_at c.args.kerf_width c.args.stock_pattern c.args.cut c.args.heuristic c.args.sheet.now c.in-At.index c.in-At.free_rect c.in-At.fit c.in-At.score f, found_inside c.args.kerf_width c.args.stock_pattern c.args.cut c.args.heuristic c.args.sheet.now c.in-At.index c.in-At.free_rect c.in-At.fit c.in-At.score f)
+    let f = rw c.in-Some.is at c.best_fit.ensures in
+    let p = c.in-Some.field-0 in
+    (c.requires, found_at c.args.kerf_width c.args.stock_pattern c.args.cut c.args.heuristic c.args.sheet.now p.index p.free_rect p.fit p.score f, found_inside c.args.kerf_width c.args.stock_pattern c.args.cut c.args.heuristic c.args.sheet.now p.index p.free_rect p.fit p.score f)
 
 pub returns : goal.returns
 returns c =
-    let f = rw c.in-At.is at c.best_fit.ensures in
-    inserts c.args.kerf_width c.args.stock_pattern c.args.cut c.args.heuristic c.args.sheet.now c.in-At.index c.in-At.free_rect c.in-At.fit c.in-At.score f c.insert_at-merged.new.sheet c.insert_at-merged.result (rw c.split_direction-direction.ensures at c.insert_at-merged.ensures)
+    let f = rw c.in-Some.is at c.best_fit.ensures in
+    let p = c.in-Some.field-0 in
+    inserts c.args.kerf_width c.args.stock_pattern c.args.cut c.args.heuristic c.args.sheet.now p.index p.free_rect p.fit p.score f c.insert_at-merged.new.sheet c.insert_at-merged.result (rw c.split_direction-direction.ensures at c.insert_at-merged.ensures)

@@ -1,12 +1,8 @@
 -- `instances::store_instances` meets its contract: what is left of the rows gives what all of them give.
-use Prim.Native.Nat.{◌-◌, ◌≤◌}
 use Rattle.project.specs.Records.{piece_of}
 use Rattle.instances.specs.Tables.{row_of}
 use Rattle.instances.proofs.Tables.{Writing}
 use Rattle.instances.proofs.store_instances.Given as goal
 
 abbrev pub invariant-loop-n : goal.invariant-loop-n
-invariant-loop-n l = (l.n ≤ l.quantity) × Writing (row_of l.kind (piece_of l.p)) l.quantity l.initial.words l.from l.words l.at l.n
-
-abbrev pub decreases-loop-n : goal.decreases-loop-n
-decreases-loop-n l = l.quantity - l.n
+invariant-loop-n l = Writing (row_of l.kind (piece_of l.p)) l.p.quantity l.initial.words l.from l.words l.at l.n

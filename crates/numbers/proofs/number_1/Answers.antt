@@ -4,4 +4,4 @@ use Rattle.numbers.proofs.Numbers.{number_1}
 use Rattle.numbers.proofs.number_1.Goals as goal
 
 pub returns : goal.returns
-returns c = c.wide.ensures ∙ number_1 c.args.file.now c.args.at c.requires
+returns c = c.from.ensures ∙ number_1 c.args.file.now c.args.at c.requires

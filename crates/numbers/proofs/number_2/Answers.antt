@@ -1,7 +1,7 @@
 -- `numbers::number_2` meets its contract.
-use native.Mathlib.Omega.{arith}
+use Rattle.std.proofs.Common.{arith}
 use Rattle.numbers.proofs.Numbers.{number_2}
 use Rattle.numbers.proofs.number_2.Goals as goal
 
 pub returns : goal.returns
-returns c = omega (arith, c.four_bytes.ensures, number_2 c.args.file.now c.args.at c.requires)
+returns c = grind (arith, number_2 c.args.file.now c.args.at c.requires)

@@ -1,18 +1,16 @@
--- `optimizer::clear` meets its contract: after i turns the first i words are zero.
-use mathlib.Core.Path.{◌∙◌, ap}
-use mathlib.Core.List.{List}
+-- `optimizer::clear` meets its contract.
 use Prim.Native.Nat.{ℕ}
 use native.Mathlib.Omega.{arith}
-use lib.ListN.{set}
-use Rattle.optimizer.proofs.Clearing.{cleared_none, cleared_more}
+use mathlib.Core.Path.{◌≡◌, ap, ◌∙◌}
+use mathlib.Core.List.{List, ◌++◌}
+use lib.ListN.{length, drop, take, replicate}
+use lib.Seq.{length-take-le}
+use Rattle.model.specs.Outcome.{least_workspace, cleared}
 use borrow.Author.Rules.{rules}
 use Rattle.optimizer.proofs.clear.Goals as goal
 
-pub loop-i-init : goal.loop-i-init
-loop-i-init c = (search rules, cleared_none _)
-
-pub loop-i-preserved : goal.loop-i-preserved
-loop-i-preserved c =
-    let l : List ℕ = c.args.workspace.now in
-    let n : ℕ = c.loop-i.i in
-    (search rules, ap (λ (x : List ℕ). set x n 0) c.loop-i.invariant.1 ∙ cleared_more l n (omega arith))
+pub returns : goal.returns
+unfolding cleared
+returns c =
+    let long : length (take least_workspace c.args.workspace.now) ≡ least_workspace = length-take-le least_workspace c.args.workspace.now (omega arith) in
+    ap (λ (l : List ℕ). l ++ drop least_workspace c.args.workspace.now) (c.fill.ensures.after (λ y e. search rules) ∙ ap (λ (n : ℕ). replicate n 0) long)

@@ -1,18 +1,19 @@
 -- `optimizer::optimize` meets its contract: each way out by its law.
-use mathlib.Core.Path.{sym, ap, ◌∙◌}
-use mathlib.Core.Logic.{inl, inr}
-use mathlib.Core.Option.{some}
-use Rattle.refusals.specs.Answers.{refusal_of}
-use Rattle.optimizer.proofs.Ends.{end_small, end_file}
+use mathlib.Core.Path.{sym, ◌∙◌}
+use Rattle.std.proofs.lemmas.Result.{err_from_is_err_and}
+use Rattle.optimizer.proofs.Ends.{end_small, enough, end_file}
 use Rattle.optimizer.proofs.optimize.Goals as goal
 
-pub returns-then-workspace-lt-WORKSPACE : goal.returns-then-workspace-lt-WORKSPACE
-returns-then-workspace-lt-WORKSPACE c = end_small c.args.file.now c.args.workspace.now c.args.plan.now (inl c.if-workspace-lt-WORKSPACE.true)
+pub returns-then-is_too_small : goal.returns-then-is_too_small
+returns-then-is_too_small c = end_small _ _ _ (sym c.is_too_small.ensures ∙ c.if-is_too_small.true)
 
-pub returns-then-plan-lt-PLAN : goal.returns-then-plan-lt-PLAN
-returns-then-plan-lt-PLAN c = end_small c.args.file.now c.args.workspace.now c.args.plan.now (inr c.if-plan-lt-PLAN.true)
+pub returns-in_err-check_project : goal.returns-in_err-check_project
+returns-in_err-check_project c =
+    let room = enough c.args.workspace.now c.args.plan.now (sym c.is_too_small.ensures ∙ c.if-is_too_small.false) in
+    let exit = err_from_is_err_and c.from_residual.result c.from_residual.ensures.1 in
+    rw (exit.1, exit.2) (end_file c.args.file.now c.args.workspace.now c.args.plan.now room.0 room.1 _ (sym c.in_err-check_project.ensures))
 
-pub returns-in-Refused : goal.returns-in-Refused
-returns-in-Refused c =
-    let refusal = sym c.check_project-checked.ensures ∙ ap refusal_of c.in-Refused.is ∙ ap some (sym c.refusal_number.ensures) in
-    end_file c.args.file.now c.args.workspace.now c.args.plan.now c.if-workspace-lt-WORKSPACE.false c.if-plan-lt-PLAN.false _ refusal
+pub optimize_project-requires : goal.optimize_project-requires
+optimize_project-requires c =
+    let room = enough c.args.workspace.now c.args.plan.now (sym c.is_too_small.ensures ∙ c.if-is_too_small.false) in
+    (sym c.in_ok-check_project.ensures, room.0, room.1)

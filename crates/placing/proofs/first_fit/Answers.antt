@@ -1,27 +1,54 @@
 -- `placing::first_fit` meets its contract.
-use Rattle.placing.proofs.Tries.{tried_all, turn}
-use borrow.Author.Rules.{rules}
+use native.Mathlib.Omega.{arith}
+use mathlib.Core.Path.{◌≡◌, ◌∙◌}
+use lib.ListN.{get_or}
+use lib.Dec.{leb}
+use Rattle.placing.specs.Fitting.{opened_if}
+use Rattle.placing.proofs.Tries.{opened_bare, opened_sheet, tried_all, turn}
 use Rattle.placing.proofs.first_fit.Goals as goal
+use Rattle.placing.proofs.first_fit.Goals.{then-sheets-j, else-sheets-j}
 
-pub try_board-requires : goal.try_board-requires
-try_board-requires c =
-    let t = (turn c.args.inst.kerf_width (record { cut = c.args.cut; heuristic = c.args.h }) c.args.stock.now c.args.boards.now
-    c.args.inst.stock c.args.sheets c.args.free.now c.requires.0 c.requires.1 c.requires.2 c.loop-j.free c.loop-j.j
-    c.loop-j.invariant c.loop-j-test.true) in
-    let fillable = t.fillable c.stock_at-s.result c.stock_at-s.ensures in
-    (t.known, search rules, fillable)
+pub open_board-requires : goal.open_board-requires
+open_board-requires c =
+    let t = turn c.args.inst.kerf_width (record { cut = c.args.cut; heuristic = c.args.h }) c.args.stock.now c.args.boards.now c.args.inst.stock c.args.sheets c.args.free.now
+    c.requires.0 c.requires.1 c.requires.2 c.loop-j.free c.loop-j.j c.loop-j.invariant c.loop-j-test.true in
+    (t.known, omega (arith, c.requires.0))
 
-pub returns-then-try_board : goal.returns-then-try_board
-returns-then-try_board c =
-    ((turn c.args.inst.kerf_width (record { cut = c.args.cut; heuristic = c.args.h }) c.args.stock.now c.args.boards.now
-    c.args.inst.stock c.args.sheets c.args.free.now c.requires.0 c.requires.1 c.requires.2 c.loop-j.free c.loop-j.j
-    c.loop-j.invariant c.loop-j-test.true)).found c.stock_at-s.result c.stock_at-s.ensures c.try_board.new.free c.try_board.result c.try_board.auto.free c.try_board.ensures c.if-try_board.true
+pub insert_on_board-requires : goal.insert_on_board-requires
+insert_on_board-requires c =
+    let t = turn c.args.inst.kerf_width (record { cut = c.args.cut; heuristic = c.args.h }) c.args.stock.now c.args.boards.now c.args.inst.stock c.args.sheets c.args.free.now
+    c.requires.0 c.requires.1 c.requires.2 c.loop-j.free c.loop-j.j c.loop-j.invariant c.loop-j-test.true in
+    let opened : c.if-sheets-j.free ≡ opened_if (leb c.args.sheets c.loop-j.j) c.loop-j.free (get_or c.args.boards.now c.loop-j.j 0) c.stock_at-s.result =
+    elim c.if-sheets-j.branch [
+      | then-sheets-j w ↦ opened_bare _ _ _ _ _ _ w.if-sheets-j.true (w.free-is ∙ w.open_board.ensures)
+      | else-sheets-j w ↦ opened_sheet _ _ _ _ _ _ w.if-sheets-j.false w.free-is
+    ]
+    in
+    t.fillable c.stock_at-s.result c.stock_at-s.ensures c.if-sheets-j.free opened
+
+pub returns-then-insert_on_board : goal.returns-then-insert_on_board
+returns-then-insert_on_board c =
+    let t = turn c.args.inst.kerf_width (record { cut = c.args.cut; heuristic = c.args.h }) c.args.stock.now c.args.boards.now c.args.inst.stock c.args.sheets c.args.free.now
+    c.requires.0 c.requires.1 c.requires.2 c.loop-j.free c.loop-j.j c.loop-j.invariant c.loop-j-test.true in
+    let opened : c.if-sheets-j.free ≡ opened_if (leb c.args.sheets c.loop-j.j) c.loop-j.free (get_or c.args.boards.now c.loop-j.j 0) c.stock_at-s.result =
+    elim c.if-sheets-j.branch [
+      | then-sheets-j w ↦ opened_bare _ _ _ _ _ _ w.if-sheets-j.true (w.free-is ∙ w.open_board.ensures)
+      | else-sheets-j w ↦ opened_sheet _ _ _ _ _ _ w.if-sheets-j.false w.free-is
+    ]
+    in
+    t.found c.stock_at-s.result c.stock_at-s.ensures c.if-sheets-j.free opened c.insert_on_board.new.free c.insert_on_board.result (c.insert_on_board.auto.free ∙ c.if-sheets-j.auto.free) c.insert_on_board.ensures c.if-insert_on_board.true
 
 pub loop-j-preserved : goal.loop-j-preserved
 loop-j-preserved c =
-    ((turn c.args.inst.kerf_width (record { cut = c.args.cut; heuristic = c.args.h }) c.args.stock.now c.args.boards.now
-    c.args.inst.stock c.args.sheets c.args.free.now c.requires.0 c.requires.1 c.requires.2 c.loop-j.free c.loop-j.j
-    c.loop-j.invariant c.loop-j-test.true)).next c.stock_at-s.result c.stock_at-s.ensures c.try_board.new.free c.try_board.result c.try_board.auto.free c.try_board.ensures c.if-try_board.false
+    let t = turn c.args.inst.kerf_width (record { cut = c.args.cut; heuristic = c.args.h }) c.args.stock.now c.args.boards.now c.args.inst.stock c.args.sheets c.args.free.now
+    c.requires.0 c.requires.1 c.requires.2 c.loop-j.free c.loop-j.j c.loop-j.invariant c.loop-j-test.true in
+    let opened : c.if-sheets-j.free ≡ opened_if (leb c.args.sheets c.loop-j.j) c.loop-j.free (get_or c.args.boards.now c.loop-j.j 0) c.stock_at-s.result =
+    elim c.if-sheets-j.branch [
+      | then-sheets-j w ↦ opened_bare _ _ _ _ _ _ w.if-sheets-j.true (w.free-is ∙ w.open_board.ensures)
+      | else-sheets-j w ↦ opened_sheet _ _ _ _ _ _ w.if-sheets-j.false w.free-is
+    ]
+    in
+    t.next c.stock_at-s.result c.stock_at-s.ensures c.if-sheets-j.free opened c.insert_on_board.new.free c.insert_on_board.result (c.insert_on_board.auto.free ∙ c.if-sheets-j.auto.free) c.insert_on_board.ensures c.if-insert_on_board.false
 
 pub returns : goal.returns
 returns c =

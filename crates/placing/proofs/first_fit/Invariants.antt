@@ -1,10 +1,6 @@
 -- `placing::first_fit` meets its contract.
-use Prim.Native.Nat.{◌-◌}
 use Rattle.placing.proofs.Tries.{Tried}
 use Rattle.placing.proofs.first_fit.Given as goal
 
 abbrev pub invariant-loop-j : goal.invariant-loop-j
 invariant-loop-j l = Tried l.inst.kerf_width (record { cut = l.cut; heuristic = l.h }) l.stock l.boards l.inst.stock l.sheets l.initial.free l.free l.j
-
-abbrev pub decreases-loop-j : goal.decreases-loop-j
-decreases-loop-j l = l.inst.stock - l.j

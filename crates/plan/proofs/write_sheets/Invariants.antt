@@ -1,5 +1,5 @@
 -- The invariant: the first j sheets are written.
-use Prim.Native.Nat.{◌+◌, ◌-◌, ◌*◌, ◌≤◌}
+use Prim.Native.Nat.{◌+◌, ◌*◌}
 use mathlib.Core.Path.{◌≡◌}
 use lib.ListN.{length, take}
 use Rattle.candidate.specs.Stands.{instance_in, candidate_in}
@@ -7,8 +7,5 @@ use Rattle.plan.specs.Sheets.{WritesFrom}
 use Rattle.plan.proofs.write_sheets.Given as goal
 
 abbrev pub invariant-loop-j : goal.invariant-loop-j
-invariant-loop-j l = (l.j ≤ l.c.sheets) × (length l.plan ≡ length l.initial.plan) × (length l.placed ≡ 64) × (length l.areas ≡ 64)
-    × WritesFrom (4 + 2 * l.c.sheets) (take l.j (candidate_in (instance_in l.stock l.cuts l.n) l.c).bins) l.initial.plan l.plan l.at l.placed l.areas
-
-abbrev pub decreases-loop-j : goal.decreases-loop-j
-decreases-loop-j l = l.c.sheets - l.j
+invariant-loop-j l = (length l.plan ≡ length l.initial.plan) × (length l.areas ≡ 64)
+    × WritesFrom (4 + 2 * l.fn.c.sheets) (take l.j (candidate_in (instance_in l.stock l.cuts l.n) l.fn.c).bins) l.initial.plan l.plan l.at l.areas

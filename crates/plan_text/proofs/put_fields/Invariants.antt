@@ -1,13 +1,9 @@
--- `plan_text::put_fields` meets its contract: the fields passed are in the buffer.
-use Prim.Native.Nat.{◌≤◌, ◌-◌}
-use lib.ListN.{length}
+-- The fields passed are in the buffer.
+use mathlib.Core.Path.{◌≡◌}
 use Rattle.lists.specs.Base.{concat_map, range}
-use Rattle.append.specs.Appending.{Appended}
+use Rattle.append.specs.Appending.{with_bytes}
 use Rattle.plan_text.specs.Rows.{field_at}
 use Rattle.plan_text.proofs.put_fields.Given as goal
 
 abbrev pub invariant-loop-i : goal.invariant-loop-i
-invariant-loop-i l = (l.i ≤ l.many) × (l.next ≤ length l.out) × Appended l.initial.out l.at (concat_map (field_at l.words l.from) (range l.i)) l.out l.next
-
-abbrev pub decreases-loop-i : goal.decreases-loop-i
-decreases-loop-i l = l.many - l.i
+invariant-loop-i g l = l.text ≡ with_bytes g.row.N l.initial.text (concat_map (field_at l.words l.from) (range l.i))

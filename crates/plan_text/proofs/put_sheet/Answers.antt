@@ -1,9 +1,11 @@
 -- `plan_text::put_sheet` meets its contract: the parts of a body one after the other.
-use Rattle.append.proofs.Laws.{appended_then, appended_is}
+use mathlib.Core.Path.{ap, ◌∙◌}
+use Rattle.append.specs.Appending.{with_bytes}
+use Rattle.append.proofs.Buffers.{bytes_then}
 use Rattle.plan_text.proofs.Laws.{sheet_text_lem}
 use Rattle.plan_text.proofs.put_sheet.Goals as goal
 
 pub returns : goal.returns
-returns c =
-    appended_is (appended_then c.id_line-headed.ensures (appended_then c.put_rows-placed.ensures (appended_then c.put_rows-left.ensures (appended_then c.word_line-guided.ensures c.put_rows.ensures))))
-    (sheet_text_lem _ _ _ _ c.count_at-pieces.ensures.0 c.count_at-waste.ensures.0 c.count_at-nodes.ensures.0)
+returns g c =
+    bytes_then _ _ _ _ c.id_line.ensures (bytes_then _ _ _ _ c.put_pieces.ensures (bytes_then _ _ _ _ c.put_waste.ensures (bytes_then _ _ _ _ c.word_line.ensures c.put_nodes.ensures)))
+    ∙ ap (with_bytes _ _) (sheet_text_lem _ _ _ _ c.word-pieces.ensures c.word-waste.ensures c.word-nodes.ensures)

@@ -1,13 +1,9 @@
--- `plan_text::put_sheets` meets its contract: the sheets passed are in the buffer, and a full buffer keeps what it has.
-use Prim.Native.Nat.{◌≤◌, ◌-◌}
-use lib.ListN.{length}
+-- The sheets passed are in the buffer.
+use mathlib.Core.Path.{◌≡◌}
 use Rattle.lists.specs.Base.{concat_map, range}
-use Rattle.append.specs.Appending.{Appended}
+use Rattle.append.specs.Appending.{with_bytes}
 use Rattle.plan_text.specs.Rows.{sheet_at}
 use Rattle.plan_text.proofs.put_sheets.Given as goal
 
 abbrev pub invariant-loop-k : goal.invariant-loop-k
-invariant-loop-k l = (l.k ≤ l.many) × (l.next ≤ length l.out) × Appended l.initial.out l.at (concat_map (sheet_at l.words) (range l.k)) l.out l.next
-
-abbrev pub decreases-loop-k : goal.decreases-loop-k
-decreases-loop-k l = l.many - l.k
+invariant-loop-k g l = l.text ≡ with_bytes g.row.N l.initial.text (concat_map (sheet_at l.words) (range l.k))

@@ -1,23 +1,17 @@
--- `prefilter::fits_any` meets its contract: no board before the present one takes the cut.
-use mathlib.Core.Path.{sym, ap, ◌∙◌}
+-- `prefilter::fits_any` meets its contract.
+use mathlib.Core.Path.{◌∙◌}
+use native.Mathlib.Omega.{arith}
+use Rattle.std.proofs.Common.{rules, tests}
+use Rattle.std.proofs.lemmas.Iterator.{YieldsList-from_range}
+use Rattle.std.proofs.lemmas.Iterator.Search.{any_from_yields_List}
 use Rattle.model.specs.Fit.{cut_fits_stock}
 use Rattle.rows.specs.Rows.{stock_at}
-use Rattle.prefilter.proofs.Fitting.{fits_start}
-use Rattle.prefilter.proofs.Left.{any_hit, any_miss, any_none}
-use borrow.Author.Rules.{rules}
+use Rattle.prefilter.specs.Rows.{fits_any}
+use Rattle.prefilter.proofs.Left.{any_range}
 use Rattle.prefilter.proofs.fits_any.Goals as goal
 
-pub loop-i-init : goal.loop-i-init
-loop-i-init c = (search rules, fits_start c.args.stock.now c.args.boards c.args.cut)
-
-pub returns-then-cut_fits_stock : goal.returns-then-cut_fits_stock
-returns-then-cut_fits_stock c = sym (any_hit (stock_at c.args.stock.now) (cut_fits_stock c.args.cut) c.loop-i.i c.args.boards c.loop-i-test.true (sym ((c.cut_fits_stock.ensures ∙ ap (cut_fits_stock c.args.cut) c.stock_at-board.ensures)) ∙ c.if-cut_fits_stock.true)) ∙ c.loop-i.invariant.1
-
-pub loop-i-preserved : goal.loop-i-preserved
-loop-i-preserved c = (
-  search rules,
-  sym (any_miss (stock_at c.args.stock.now) (cut_fits_stock c.args.cut) c.loop-i.i c.args.boards c.loop-i-test.true (sym ((c.cut_fits_stock.ensures ∙ ap (cut_fits_stock c.args.cut) c.stock_at-board.ensures)) ∙ c.if-cut_fits_stock.false)) ∙ c.loop-i.invariant.1,
-)
-
 pub returns : goal.returns
-returns c = sym (any_none (stock_at c.args.stock.now) (cut_fits_stock c.args.cut) c.loop-i.i c.args.boards c.loop-i-test.false) ∙ c.loop-i.invariant.1
+unfolding fits_any
+returns c =
+    any_from_yields_List (λ i. cut_fits_stock c.args.cut (stock_at c.args.stock.now i)) _ _ _ c.any.ensures.ran (YieldsList-from_range 0 c.args.boards c.args.boards (cc) (omega arith)) (λ x b q k. search (rules, tests))
+    ∙ any_range (stock_at c.args.stock.now) (cut_fits_stock c.args.cut) 0 c.args.boards

@@ -9,12 +9,12 @@ use Rattle.prefilter.proofs.total_area.Goals as goal
 pub overflow_add-total : goal.overflow_add-total
 unfolding row_area
 overflow_add-total c =
-    let under : c.loop-i.total + c.area-total.result < 2 ^ 64 = omega (arith, c.area-total.ensures, sum_next (row_area c.args.stride c.args.table.now) c.loop-i.i c.args.count c.loop-i-test.true, c.loop-i.invariant.1, c.requires.3) in
+    let under : c.loop-i.total + c.area-total.result < 2 ^ 64 = omega (arith, c.area-total.ensures, sum_next (row_area c.args.stride c.args.table.now) c.loop-i.i c.args.count (omega arith), c.loop-i.invariant, c.requires.3) in
     search rules
 
 pub loop-i-preserved : goal.loop-i-preserved
 unfolding row_area
-loop-i-preserved c = (search rules, (omega (arith, c.area-total.ensures, sum_next (row_area c.args.stride c.args.table.now) c.loop-i.i c.args.count c.loop-i-test.true, c.loop-i.invariant.1)))
+loop-i-preserved c = omega (arith, c.area-total.ensures, sum_next (row_area c.args.stride c.args.table.now) c.loop-i.i c.args.count (omega arith), c.loop-i.invariant)
 
 pub returns : goal.returns
-returns c = omega (arith, sum_none (row_area c.args.stride c.args.table.now) c.loop-i.i c.args.count c.loop-i-test.false, c.loop-i.invariant.1)
+returns c = omega (arith, sum_none (row_area c.args.stride c.args.table.now) c.loop-i.i c.args.count (omega arith), c.loop-i.invariant)

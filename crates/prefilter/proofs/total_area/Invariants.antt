@@ -1,5 +1,5 @@
 -- `prefilter::total_area` meets its contract: the areas so far and those of the rows left are all of them.
-use Prim.Native.Nat.{◌+◌, ◌-◌, ◌≤◌}
+use Prim.Native.Nat.{◌+◌}
 use mathlib.Core.Path.{◌≡◌}
 use mathlib.Core.List.{map}
 use Rattle.lists.specs.Base.{sum, range}
@@ -8,7 +8,4 @@ use Rattle.prefilter.proofs.Left.{left}
 use Rattle.prefilter.proofs.total_area.Given as goal
 
 abbrev pub invariant-loop-i : goal.invariant-loop-i
-invariant-loop-i l = (l.i ≤ l.count) × (l.total + sum (map (row_area l.stride l.table) (left l.i l.count)) ≡ sum (map (row_area l.stride l.table) (range l.count)))
-
-abbrev pub decreases-loop-i : goal.decreases-loop-i
-decreases-loop-i l = l.count - l.i
+invariant-loop-i l = l.total + sum (map (row_area l.stride l.table) (left l.i l.count)) ≡ sum (map (row_area l.stride l.table) (range l.count))

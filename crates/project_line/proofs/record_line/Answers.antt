@@ -1,33 +1,44 @@
--- `project_line::record_line` meets its contract: each field that is missing, and none.
-use mathlib.Core.Path.{sym, ◌∙◌}
+-- `project_line::record_line` meets its contract: each field that is missing, more words than it takes, and none of these.
+use Rattle.std.proofs.lemmas.Result.{err_from_is_err_and}
 use Rattle.project_line.specs.Lines.{record_line}
-use Rattle.project_line.proofs.Lines.{taken_none, taken_some, need_none, need_some}
 use Rattle.project_line.proofs.record_line.Goals as goal
 
-pub returns-in_default : goal.returns-in_default
+pub returns-in_err-number : goal.returns-in_err-number
 unfolding record_line
-returns-in_default c = sym (need_none _ _ _ (taken_none _ _ _ c.number_at.ensures c.in_default.is))
+returns-in_err-number c =
+    let p = err_from_is_err_and c.from_residual.result c.from_residual.ensures.1 in
+    rw (p.1, p.2, c.in_err-number.ensures.0, c.in_err-number.ensures.1)
 
-pub returns-in_default-number_at : goal.returns-in_default-number_at
+pub returns-in_err-number-2 : goal.returns-in_err-number-2
 unfolding record_line
-returns-in_default-number_at c = sym (need_some _ _ _ _ _ (taken_some _ _ _ c.number_at.ensures _ _ c.in-Got.is) ∙ need_none _ _ _ (taken_none _ _ _ c.number_at-2.ensures c.in_default-number_at.is))
+returns-in_err-number-2 c =
+    let p = err_from_is_err_and c.from_residual-in_err-number-2.result c.from_residual-in_err-number-2.ensures.1 in
+    rw (p.1, p.2, c.in_ok-number.ensures, c.in_err-number-2.ensures.0, c.in_err-number-2.ensures.1)
 
-pub returns-in_default-number_at-2 : goal.returns-in_default-number_at-2
+pub returns-in_err-number-3 : goal.returns-in_err-number-3
 unfolding record_line
-returns-in_default-number_at-2 c = sym (need_some _ _ _ _ _ (taken_some _ _ _ c.number_at.ensures _ _ c.in-Got.is) ∙ need_some _ _ _ _ _ (taken_some _ _ _ c.number_at-2.ensures _ _ c.in-Got-number_at.is) ∙ need_none _ _ _ (taken_none _ _ _ c.number_at-3.ensures c.in_default-number_at-2.is))
+returns-in_err-number-3 c =
+    let p = err_from_is_err_and c.from_residual-in_err-number-3.result c.from_residual-in_err-number-3.ensures.1 in
+    rw (p.1, p.2, c.in_ok-number.ensures, c.in_ok-number-2.ensures, c.in_err-number-3.ensures.0, c.in_err-number-3.ensures.1)
 
-pub returns-in_default-quantity_at : goal.returns-in_default-quantity_at
+pub returns-in_err-quantity : goal.returns-in_err-quantity
 unfolding record_line
-returns-in_default-quantity_at c = sym (need_some _ _ _ _ _ (taken_some _ _ _ c.number_at.ensures _ _ c.in-Got.is) ∙ need_some _ _ _ _ _ (taken_some _ _ _ c.number_at-2.ensures _ _ c.in-Got-number_at.is) ∙ need_some _ _ _ _ _ (taken_some _ _ _ c.number_at-3.ensures _ _ c.in-Got-number_at-2.is) ∙ need_none _ _ _ (taken_none _ _ _ c.quantity_at.ensures c.in_default-quantity_at.is))
+returns-in_err-quantity c =
+    let p = err_from_is_err_and c.from_residual-in_err-quantity.result c.from_residual-in_err-quantity.ensures.1 in
+    rw (p.1, p.2, c.in_ok-number.ensures, c.in_ok-number-2.ensures, c.in_ok-number-3.ensures, c.in_err-quantity.ensures.0, c.in_err-quantity.ensures.1)
 
-pub returns-in_default-grain_at : goal.returns-in_default-grain_at
+pub returns-in_err-grain : goal.returns-in_err-grain
 unfolding record_line
-returns-in_default-grain_at c = sym (need_some _ _ _ _ _ (taken_some _ _ _ c.number_at.ensures _ _ c.in-Got.is) ∙ need_some _ _ _ _ _ (taken_some _ _ _ c.number_at-2.ensures _ _ c.in-Got-number_at.is) ∙ need_some _ _ _ _ _ (taken_some _ _ _ c.number_at-3.ensures _ _ c.in-Got-number_at-2.is) ∙ need_some _ _ _ _ _ (taken_some _ _ _ c.quantity_at.ensures _ _ c.in-Got-quantity_at.is) ∙ need_none _ _ _ (taken_none _ _ _ c.grain_at.ensures c.in_default-grain_at.is))
+returns-in_err-grain c =
+    let p = err_from_is_err_and c.from_residual-in_err-grain.result c.from_residual-in_err-grain.ensures.1 in
+    rw (p.1, p.2, c.in_ok-number.ensures, c.in_ok-number-2.ensures, c.in_ok-number-3.ensures, c.in_ok-quantity.ensures, c.in_err-grain.ensures.0, c.in_err-grain.ensures.1)
 
-pub returns-in_default-flag_at : goal.returns-in_default-flag_at
+pub returns-in_err-end : goal.returns-in_err-end
 unfolding record_line
-returns-in_default-flag_at c = sym (need_some _ _ _ _ _ (taken_some _ _ _ c.number_at.ensures _ _ c.in-Got.is) ∙ need_some _ _ _ _ _ (taken_some _ _ _ c.number_at-2.ensures _ _ c.in-Got-number_at.is) ∙ need_some _ _ _ _ _ (taken_some _ _ _ c.number_at-3.ensures _ _ c.in-Got-number_at-2.is) ∙ need_some _ _ _ _ _ (taken_some _ _ _ c.quantity_at.ensures _ _ c.in-Got-quantity_at.is) ∙ need_some _ _ _ _ _ (taken_some _ _ _ c.grain_at.ensures _ _ c.in-Got-grain_at.is) ∙ need_none _ _ _ (taken_none _ _ _ c.flag_at.ensures c.in_default-flag_at.is))
+returns-in_err-end c =
+    let p = err_from_is_err_and c.from_residual-in_err-end.result c.from_residual-in_err-end.ensures.1 in
+    rw (p.1, p.2, c.in_ok-number.ensures, c.in_ok-number-2.ensures, c.in_ok-number-3.ensures, c.in_ok-quantity.ensures, c.in_ok-grain.ensures, c.flag.ensures, c.in_err-end.ensures.0, c.in_err-end.ensures.1)
 
 pub returns : goal.returns
 unfolding record_line
-returns c = c.end_line.ensures ∙ sym (need_some _ _ _ _ _ (taken_some _ _ _ c.number_at.ensures _ _ c.in-Got.is) ∙ need_some _ _ _ _ _ (taken_some _ _ _ c.number_at-2.ensures _ _ c.in-Got-number_at.is) ∙ need_some _ _ _ _ _ (taken_some _ _ _ c.number_at-3.ensures _ _ c.in-Got-number_at-2.is) ∙ need_some _ _ _ _ _ (taken_some _ _ _ c.quantity_at.ensures _ _ c.in-Got-quantity_at.is) ∙ need_some _ _ _ _ _ (taken_some _ _ _ c.grain_at.ensures _ _ c.in-Got-grain_at.is) ∙ need_some _ _ _ _ _ (taken_some _ _ _ c.flag_at.ensures _ _ c.in-Got-flag_at.is))
+returns c = rw (c.in_ok-number.ensures, c.in_ok-number-2.ensures, c.in_ok-number-3.ensures, c.in_ok-quantity.ensures, c.in_ok-grain.ensures, c.flag.ensures, c.in_ok-end.ensures)

@@ -1,14 +1,20 @@
 -- `project_line::setting_line` meets its contract.
-use mathlib.Core.Path.{sym, ap, ◌∙◌}
-use Rattle.project_line.specs.declared.Line.{Line}
+use Rattle.std.proofs.lemmas.Result.{err_from_is_err_and}
 use Rattle.project_line.specs.Lines.{setting_line}
-use Rattle.project_line.proofs.Lines.{taken_none, taken_some, need_none, need_some}
 use Rattle.project_line.proofs.setting_line.Goals as goal
 
-pub returns-in_default : goal.returns-in_default
+pub returns-in_err-number : goal.returns-in_err-number
 unfolding setting_line
-returns-in_default c = ap Line.Bad c.why.ensures ∙ sym (need_none _ _ _ (taken_none _ _ _ c.setting_at.ensures c.in_default.is))
+returns-in_err-number c =
+    let p = err_from_is_err_and c.from_residual.result c.from_residual.ensures.1 in
+    rw (p.1, p.2, c.in_err-number.ensures.0, c.in_err-number.ensures.1)
+
+pub returns-in_err-end : goal.returns-in_err-end
+unfolding setting_line
+returns-in_err-end c =
+    let p = err_from_is_err_and c.from_residual-in_err-end.result c.from_residual-in_err-end.ensures.1 in
+    rw (p.1, p.2, c.in_ok-number.ensures, c.in_err-end.ensures.0, c.in_err-end.ensures.1)
 
 pub returns : goal.returns
 unfolding setting_line
-returns c = c.end_line.ensures ∙ sym (need_some _ _ _ _ _ (taken_some _ _ _ c.setting_at.ensures _ _ c.in-Got.is))
+returns c = rw (c.in_ok-number.ensures, c.in_ok-end.ensures)

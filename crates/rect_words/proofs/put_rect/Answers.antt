@@ -12,4 +12,4 @@ pub returns : goal.returns
 unfolding put_rect
 returns c =
     let past : 4 * c.args.index + 1 + 4 ≡ 4 * c.args.index + 5 = omega arith in
-    c.put_four.ensures ∙ ap (λ (n : ℕ). take (4 * c.args.index + 1) c.args.sheet.now ++ (rect_words c.args.rect ++ drop n c.args.sheet.now)) past
+    c.put_words.ensures ∙ ap (λ (n : ℕ). take (4 * c.args.index + 1) c.args.sheet.now ++ (rect_words c.args.rect ++ drop n c.args.sheet.now)) past

@@ -1,30 +1,26 @@
--- `refusals::check_record` meets its contract.
+-- `refusals::check_record` meets its contract: the rows are those of the kind.
 use Prim.Native.Nat.{ℕ}
 use mathlib.Core.Path.{sym, ap, ◌∙◌}
 use mathlib.Core.List.{List}
 use Rattle.model.specs.Project.{Piece}
 use Rattle.model.specs.Refusal.{first_that_applies}
 use Rattle.project.specs.declared.Kind.{Kind}
-use Rattle.refusals.specs.Answers.{rule_of}
 use Rattle.project.specs.Records.{piece_of, record_at}
-use Rattle.refusals.specs.Answers.{ids_before}
+use Rattle.refusals.specs.Checks.{rule_of, ids_before}
 use Rattle.refusals.proofs.Checks.{stock_rows, cut_rows}
 use Rattle.refusals.proofs.check_record.Goals as goal
+use Rattle.refusals.proofs.check_record.Goals.{in-Stock, in-Cut}
 
-pub returns-in-Stock : goal.returns-in-Stock
-returns-in-Stock c =
-    let f : List ℕ = c.args.file.now in
-    let seen : List ℕ = ids_before f c.args.base c.args.i in
-    let q : Piece = record_at f c.args.base c.args.i in
-    c.first_row.ensures
-    ∙ stock_rows (piece_of c.piece_at-p.result) q seen c.args.count _ _ _ _ c.piece_at-p.ensures c.zero_side-zero.ensures c.large_side-large.ensures c.id_used-used.ensures c.bad_stock_codes.ensures
-    ∙ ap (λ (k : Kind). first_that_applies (rule_of k seen c.args.count q)) (sym c.in-Stock.is)
-
-pub returns-in-Cut : goal.returns-in-Cut
-returns-in-Cut c =
-    let f : List ℕ = c.args.file.now in
-    let seen : List ℕ = ids_before f c.args.base c.args.i in
-    let q : Piece = record_at f c.args.base c.args.i in
-    c.first_row-in-Cut.ensures
-    ∙ cut_rows (piece_of c.piece_at-p.result) q seen c.args.count _ _ _ _ c.piece_at-p.ensures c.zero_side-zero.ensures c.large_side-large.ensures c.id_used-used.ensures c.bad_codes.ensures
-    ∙ ap (λ (k : Kind). first_that_applies (rule_of k seen c.args.count q)) (sym c.in-Cut.is)
+pub returns : goal.returns
+returns c =
+    let seen : List ℕ = ids_before c.args.body.now c.args.i in
+    let q : Piece = record_at c.args.body.now c.args.i in
+    c.first_that_applies.ensures
+    ∙ elim c.match-kind.branch [
+      | in-Stock w ↦
+          stock_rows (piece_of c.record_at-p.result) q seen c.args.count _ _ _ _ _ c.record_at-p.ensures c.from.ensures c.zero_side.ensures c.large_side.ensures c.id_used.ensures _ w.bad_stock_codes.ensures w.codes-is
+          ∙ ap (λ (k : Kind). first_that_applies (rule_of k seen c.args.count q)) (sym w.in-Stock.is)
+      | in-Cut w ↦
+          cut_rows (piece_of c.record_at-p.result) q seen c.args.count _ _ _ _ _ c.record_at-p.ensures c.from.ensures c.zero_side.ensures c.large_side.ensures c.id_used.ensures _ w.bad_codes.ensures w.codes-is
+          ∙ ap (λ (k : Kind). first_that_applies (rule_of k seen c.args.count q)) (sym w.in-Cut.is)
+    ]

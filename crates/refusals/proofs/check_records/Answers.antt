@@ -1,22 +1,36 @@
 -- `refusals::check_records` meets its contract: what is left of the records gives what all of them give.
+use Prim.Native.Nat.{ℕ, ◌+◌}
 use mathlib.Core.Path.{sym, ap, ◌∙◌}
-use Rattle.refusals.specs.Answers.{refusal_of, rule_of}
-use Rattle.refusals.proofs.Checks.{rest_all, rest_passed, rest_refused, rest_none}
+use mathlib.Core.Option.{Option}
+use Rattle.lists.specs.Base.{◌<|>◌}
+use Rattle.model.specs.Project.{Piece}
+use Rattle.project.specs.Records.{record_at}
+use Rattle.refusals.specs.Checks.{rule_of}
+use Rattle.refusals.proofs.Checks.{rest, rest_all, rest_next, rest_none}
+use Rattle.std.proofs.lemmas.Result.{err_from_is_err_and}
 use borrow.Author.Rules.{rules}
 use Rattle.refusals.proofs.check_records.Goals as goal
 
-pub loop-i-init : goal.loop-i-init
-loop-i-init c = (search rules, search rules, rest_all c.args.file.now c.args.base c.args.n (rule_of c.args.kind))
-
-pub returns-in-Refused : goal.returns-in-Refused
-returns-in-Refused c = sym (c.loop-i.invariant.2 ∙ rest_refused c.args.file.now c.args.base c.args.n (rule_of c.args.kind) c.loop-i.i c.loop-i.count _ c.loop-i-test.true (sym (ap refusal_of c.in-Refused.is) ∙ c.check_record-checked.ensures))
+pub returns-in_err-check_record : goal.returns-in_err-check_record
+returns-in_err-check_record c =
+    let exit = err_from_is_err_and c.from_residual.result c.from_residual.ensures.1 in
+    rw (exit.1, exit.2)
+    (ap (λ (o : Option ℕ). o <|> rest c.args.body.now (rule_of c.args.kind) (c.loop-i.i + 1) (c.loop-i.count + (record_at c.args.body.now c.loop-i.i).quantity)) c.in_err-check_record.ensures
+    ∙ sym (rest_next c.args.body.now (rule_of c.args.kind) c.loop-i.i c.loop-i.count (search rules))
+    ∙ c.loop-i.invariant.1
+    ∙ rest_all c.args.body.now (rule_of c.args.kind))
 
 pub loop-i-preserved : goal.loop-i-preserved
 loop-i-preserved c = (
   search rules,
-  search rules,
-  c.loop-i.invariant.2 ∙ rest_passed c.args.file.now c.args.base c.args.n (rule_of c.args.kind) c.loop-i.i c.loop-i.count _ c.loop-i-test.true c.number_4.ensures (sym (ap refusal_of c.in-Passed.is) ∙ c.check_record-checked.ensures),
+  ap (λ (q : ℕ). rest c.args.body.now (rule_of c.args.kind) (c.loop-i.i + 1) (c.loop-i.count + q)) (c.from-count.ensures ∙ ap (λ (p : Piece). p.quantity) c.record_at.ensures)
+      ∙ ap (λ (o : Option ℕ). o <|> rest c.args.body.now (rule_of c.args.kind) (c.loop-i.i + 1) (c.loop-i.count + (record_at c.args.body.now c.loop-i.i).quantity)) c.in_ok-check_record.ensures
+      ∙ sym (rest_next c.args.body.now (rule_of c.args.kind) c.loop-i.i c.loop-i.count (search rules))
+      ∙ c.loop-i.invariant.1,
 )
 
 pub returns : goal.returns
-returns c = sym (c.loop-i.invariant.2 ∙ rest_none c.args.file.now c.args.base c.args.n (rule_of c.args.kind) c.loop-i.i c.loop-i.count c.loop-i-test.false)
+returns c =
+    sym (rest_none c.args.body.now (rule_of c.args.kind) c.loop-i.i c.loop-i.count (search rules))
+    ∙ c.loop-i.invariant.1
+    ∙ rest_all c.args.body.now (rule_of c.args.kind)

@@ -1,14 +1,24 @@
--- `refusals::id_used` meets its contract: no record from the present number on has the id.
-use mathlib.Core.Path.{sym, ◌∙◌}
-use Rattle.refusals.proofs.Checks.{id_hit, id_miss, id_none}
-use borrow.Author.Rules.{rules}
+-- `refusals::id_used` meets its contract: no record before the present one has the id.
+use native.Mathlib.Omega.{arith}
+use mathlib.Core.Path.{◌≡◌, sym, ap, ◌∙◌}
+use mathlib.Core.Bool.{◌||◌, Bool}
+use borrow.Author.Tests.{ne_eqb}
+use Rattle.model.specs.Project.{Piece}
+use Rattle.project.specs.Records.{record_at}
+use Rattle.refusals.proofs.Checks.{among, among_none, among_next, among_one}
 use Rattle.refusals.proofs.id_used.Goals as goal
 
-pub returns-then-id-number_8 : goal.returns-then-id-number_8
-returns-then-id-number_8 c = sym (c.loop-k.invariant.1 ∙ id_hit c.args.file.now c.args.base c.args.id c.loop-k.k c.loop-k-test.true (c.if-id-number_8.true ∙ c.number_8.ensures))
+pub loop-k-init : goal.loop-k-init
+loop-k-init c = among_none c.args.body.now c.args.id
+
+pub returns-then-record_at-id : goal.returns-then-record_at-id
+returns-then-record_at-id c =
+    let read : c.record_at.result.id ≡ (record_at c.args.body.now c.loop-k.k).id = ap (λ (p : Piece). p.id) c.record_at.ensures in
+    sym (among_one c.args.body.now c.args.id c.loop-k.k c.args.i (omega arith) (sym c.if-record_at-id.true ∙ read))
 
 pub loop-k-preserved : goal.loop-k-preserved
-loop-k-preserved c = (search rules, c.loop-k.invariant.1 ∙ id_miss c.args.file.now c.args.base c.args.id c.loop-k.k c.loop-k-test.true (λ e. c.if-id-number_8.false (e ∙ sym c.number_8.ensures)))
-
-pub returns : goal.returns
-returns c = sym (c.loop-k.invariant.1 ∙ id_none c.args.file.now c.args.base c.args.id c.loop-k.k c.loop-k-test.false)
+loop-k-preserved c =
+    let read : c.record_at.result.id ≡ (record_at c.args.body.now c.loop-k.k).id = ap (λ (p : Piece). p.id) c.record_at.ensures in
+    among_next c.args.body.now c.args.id c.loop-k.k
+    ∙ ap (λ (b : Bool). b || among c.args.body.now c.args.id c.loop-k.k) (ne_eqb c.args.id _ (λ e. c.if-record_at-id.false (read ∙ sym e)))
+    ∙ c.loop-k.invariant

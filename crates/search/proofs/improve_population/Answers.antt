@@ -11,11 +11,10 @@ use Rattle.stored.specs.Slots.{slot_words, slot_of, stored_in}
 use Rattle.stored.specs.Populations.{words_at, StandsAt}
 use Rattle.stored.proofs.Populations.{load_fits, standing_at}
 use Rattle.search.proofs.Passes.{improved_none, next_words, improved_step}
-use borrow.Author.Rules.{rules}
 use Rattle.search.proofs.improve_population.Goals as goal
 
 pub loop-k-init : goal.loop-k-init
-loop-k-init c = (search rules, refl, refl, improved_none (instance_in c.args.stock.now c.args.cuts.now c.args.inst) c.args.h c.args.ws.now c.args.base, refl)
+loop-k-init c = (refl, refl, improved_none (instance_in c.args.stock.now c.args.cuts.now c.args.inst) c.args.h c.args.ws.now c.args.base, refl)
 
 pub load_at-c-requires : goal.load_at-c-requires
 load_at-c-requires c =
@@ -24,9 +23,9 @@ load_at-c-requires c =
     let inst : ProblemInstance = instance_in c.args.stock.now c.args.cuts.now c.args.inst in
     let count : length inst.cuts ≡ c.args.inst.cuts = cut_count c.args.stock.now c.args.cuts.now c.args.inst in
     let stands : StandsAt inst c.loop-k.ws slot =
-    subst (Stands inst []) (sym (next_words inst c.args.h before c.loop-k.ws c.args.base c.loop-k.k c.loop-k.invariant.3)) (standing_at inst before c.args.base c.args.count c.loop-k.k c.requires.1 c.loop-k-test.true)
+    subst (Stands inst []) (sym (next_words inst c.args.h before c.loop-k.ws c.args.base c.loop-k.k c.loop-k.invariant.2)) (standing_at inst before c.args.base c.args.count c.loop-k.k c.requires.1 c.loop-k-test.true)
     in (
-      omega (arith, c.loop-k.invariant.1, c.loop-k-test.true, c.requires.2),
+      omega (arith, c.loop-k.invariant.0, c.loop-k-test.true, c.requires.2),
       subst (λ (n : ℕ). get_or (slot_of c.loop-k.ws slot) 1 0 ≤ n) count (load_fits inst c.loop-k.ws slot stands),
       c.requires.0.few_cuts,
     )
@@ -39,11 +38,11 @@ improve-d-requires c =
     let loaded : c.load_at-c.result ≡ words_at inst before slot =
     c.load_at-c.ensures
     ∙ ap (stored_in c.loop-k.ws slot) (sym (cut_count c.args.stock.now c.args.cuts.now c.args.inst))
-    ∙ next_words inst c.args.h before c.loop-k.ws c.args.base c.loop-k.k c.loop-k.invariant.3
+    ∙ next_words inst c.args.h before c.loop-k.ws c.args.base c.loop-k.k c.loop-k.invariant.2
     in (
       c.requires.0,
       subst (Stands inst []) (sym loaded) (standing_at inst before c.args.base c.args.count c.loop-k.k c.requires.1 c.loop-k-test.true),
-      omega (arith, c.loop-k.invariant.2, c.requires.3),
+      omega (arith, c.loop-k.invariant.1, c.requires.3),
     )
 
 pub loop-k-preserved : goal.loop-k-preserved
@@ -54,12 +53,11 @@ loop-k-preserved c =
     let loaded : c.load_at-c.result ≡ words_at inst before slot =
     c.load_at-c.ensures
     ∙ ap (stored_in c.loop-k.ws slot) (sym (cut_count c.args.stock.now c.args.cuts.now c.args.inst))
-    ∙ next_words inst c.args.h before c.loop-k.ws c.args.base c.loop-k.k c.loop-k.invariant.3
+    ∙ next_words inst c.args.h before c.loop-k.ws c.args.base c.loop-k.k c.loop-k.invariant.2
     in
-    let room : slot_words * slot + slot_words ≤ length c.loop-k.ws = omega (arith, c.loop-k.invariant.1, c.loop-k-test.true, c.requires.2) in (
-      search rules,
-      c.store_at.auto.ws ∙ c.loop-k.invariant.1,
-      c.improve-d.auto.free ∙ c.loop-k.invariant.2,
-      improved_step inst c.args.h before c.loop-k.ws c.args.base c.loop-k.k c.loop-k.invariant.3 c.store_at.new.ws c.load_at-c.result c.improve-d.result room c.requires.0.ranged.few_panels loaded c.improve-d.ensures.0 c.store_at.ensures,
-      c.improve-d.ensures.1 ∙ c.loop-k.invariant.4,
+    let room : slot_words * slot + slot_words ≤ length c.loop-k.ws = omega (arith, c.loop-k.invariant.0, c.loop-k-test.true, c.requires.2) in (
+      c.store_at.auto.ws ∙ c.loop-k.invariant.0,
+      c.improve-d.auto.free ∙ c.loop-k.invariant.1,
+      improved_step inst c.args.h before c.loop-k.ws c.args.base c.loop-k.k c.loop-k.invariant.2 c.store_at.new.ws c.load_at-c.result c.improve-d.result room c.requires.0.ranged.few_panels loaded c.improve-d.ensures.0 c.store_at.ensures,
+      c.improve-d.ensures.1 ∙ c.loop-k.invariant.3,
     )

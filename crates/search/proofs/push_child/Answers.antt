@@ -1,7 +1,18 @@
 -- `search::push_child` meets its contract.
-use Rattle.search.proofs.Pushing.{push_one}
-use borrow.Author.Tests.{not-false}
+use Prim.Native.Nat.{◌+◌}
+use mathlib.Core.Path.{sym, subst}
+use Rattle.std.specs.Prelude.{Option}
+use Rattle.candidate.specs.declared.Candidate.{Candidate}
+use Rattle.search.specs.Regions.{PushesChild}
+use Rattle.search.proofs.Pushing.{push_none, push_one}
 use Rattle.search.proofs.push_child.Goals as goal
 
-pub returns : goal.returns
-returns c = push_one c.args.base c.args.size c.args.child c.args.ws.now c.store_at.new.ws (not-false _ c.if-not-child.false) c.requires.0 c.store_at.ensures
+pub returns-in-None : goal.returns-in-None
+returns-in-None c =
+    subst (λ (o : Option Candidate). PushesChild c.args.base c.args.size o c.args.ws.now c.args.ws.now c.args.size) (sym c.in-None.is)
+    (push_none c.args.base c.args.size c.args.ws.now)
+
+pub returns-in-Some : goal.returns-in-Some
+returns-in-Some c =
+    subst (λ (o : Option Candidate). PushesChild c.args.base c.args.size o c.args.ws.now c.store_at.new.ws (c.args.size + 1)) (sym c.in-Some.is)
+    (push_one c.args.base c.args.size c.in-Some.c c.args.ws.now c.store_at.new.ws c.requires.0 c.store_at.ensures)

@@ -7,7 +7,7 @@ use Rattle.model.specs.Candidate.{Candidate}
 use Rattle.model.specs.Expand.{ProblemInstance}
 use Rattle.model.specs.Search.{initial_population, run_generations}
 use Rattle.candidate.specs.Stands.{instance_in}
-use Rattle.seeds.specs.Rows.{numbers_of, rows_of}
+use Rattle.seeds.specs.Rows.{numbers_of}
 use Rattle.stored.specs.Populations.{population_in}
 use Rattle.stored.proofs.Populations.{only_wider, only_then}
 use Rattle.survival.specs.Ranks.{Chosen}
@@ -17,12 +17,11 @@ use Rattle.search.proofs.winner.Goals as goal
 pub loop-round-preserved : goal.loop-round-preserved
 loop-round-preserved c =
     let inst : ProblemInstance = instance_in c.args.stock.now c.args.cuts.now c.args.inst in
-    let here : c.loop-round.round < c.args.n.generations = c.loop-round-test.true in (
-      omega arith,
-      c.next_generation-count.auto.ws ∙ c.loop-round.invariant.1,
-      c.next_generation-count.auto.free ∙ c.loop-round.invariant.2,
-      run_step inst _ c.args.n.survivors c.args.n.generations (population_in inst c.initial_population-count.new.ws 0 c.initial_population-count.result) c.initial_population-count.new.ws c.loop-round.round c.loop-round.base c.loop-round.count c.loop-round.ws c.loop-round.invariant.3 c.next_generation-count.new.ws c.next_generation-count.result here c.requires.3 c.next_generation-count.ensures.0 c.next_generation-count.ensures.1,
-      c.next_generation-count.ensures.2 ∙ c.loop-round.invariant.4,
+    let here : c.loop-round._round < c.args.n.generations = c.loop-round-test.true in (
+      c.next_generation-count.auto.ws ∙ c.loop-round.invariant.0,
+      c.next_generation-count.auto.free ∙ c.loop-round.invariant.1,
+      run_step inst _ c.args.n.survivors c.args.n.generations (population_in inst c.initial_population-count.new.ws 0 c.initial_population-count.result) c.initial_population-count.new.ws c.loop-round._round c.loop-round.base c.loop-round.count c.loop-round.ws c.loop-round.invariant.2 c.next_generation-count.new.ws c.next_generation-count.result here c.requires.3 c.next_generation-count.ensures.0 c.next_generation-count.ensures.1,
+      c.next_generation-count.ensures.2 ∙ c.loop-round.invariant.3,
     )
 
 pub returns : goal.returns
@@ -30,12 +29,12 @@ unfolding numbers_of
 returns c =
     let inst : ProblemInstance = instance_in c.args.stock.now c.args.cuts.now c.args.inst in
     let n = numbers_of c.args.n in
-    let rows = rows_of c.args.rows in
+    let rows = c.args.rows.now in
     let last : population_in inst c.loop-round.ws c.loop-round.base c.loop-round.count ≡ run_generations inst c.default_heuristic-h.result n.survivors n.generations (initial_population rows inst n) =
-    run_all inst c.default_heuristic-h.result c.args.n.survivors c.args.n.generations (population_in inst c.initial_population-count.new.ws 0 c.initial_population-count.result) c.initial_population-count.new.ws c.loop-round.round c.loop-round.base c.loop-round.count c.loop-round.ws c.loop-round.invariant.3 c.loop-round-test.false
+    run_all inst c.default_heuristic-h.result c.args.n.survivors c.args.n.generations (population_in inst c.initial_population-count.new.ws 0 c.initial_population-count.result) c.initial_population-count.new.ws c.loop-round._round c.loop-round.base c.loop-round.count c.loop-round.ws c.loop-round.invariant.2 c.loop-round-test.false
     ∙ ap (run_generations inst c.default_heuristic-h.result n.survivors n.generations) c.initial_population-count.ensures.0.is
     in (
       subst (λ (o : Option Candidate). Chosen inst o c.select_best_valid_candidate.result) (winner_is rows inst n c.default_heuristic-h.result (population_in inst c.loop-round.ws c.loop-round.base c.loop-round.count) (sym c.default_heuristic-h.ensures) last) c.select_best_valid_candidate.ensures,
-      behind_kept c.args.ws.now c.loop-round.ws (only_then 0 96 c.args.ws.now c.initial_population-count.new.ws c.loop-round.ws (only_wider 0 48 c.args.ws.now c.initial_population-count.new.ws c.initial_population-count.ensures.1 0 96 (omega arith) (omega arith)) c.loop-round.invariant.3.only),
-      c.loop-round.invariant.4 ∙ c.initial_population-count.ensures.2,
+      behind_kept c.args.ws.now c.loop-round.ws (only_then 0 96 c.args.ws.now c.initial_population-count.new.ws c.loop-round.ws (only_wider 0 48 c.args.ws.now c.initial_population-count.new.ws c.initial_population-count.ensures.1 0 96 (omega arith) (omega arith)) c.loop-round.invariant.2.only),
+      c.loop-round.invariant.3 ∙ c.initial_population-count.ensures.2,
     )

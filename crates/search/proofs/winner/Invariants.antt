@@ -1,5 +1,4 @@
 -- `search::winner` meets its contract: what is left of the rounds gives what all of them give.
-use Prim.Native.Nat.{◌-◌, ◌≤◌}
 use mathlib.Core.Path.{◌≡◌}
 use lib.ListN.{length}
 use Rattle.candidate.specs.Stands.{instance_in}
@@ -9,11 +8,7 @@ use Rattle.search.proofs.Rounds.{RunTo}
 use Rattle.search.proofs.winner.Given as goal
 
 abbrev pub invariant-loop-round : goal.invariant-loop-round
-invariant-loop-round l = (l.round ≤ l.n.generations)
-    × (length l.ws ≡ length l.initial.ws)
+invariant-loop-round l = (length l.ws ≡ length l.initial.ws)
     × (length l.free ≡ length l.initial.free)
-    × RunTo (instance_in l.stock l.cuts l.inst) l.h l.n.survivors l.n.generations (population_in (instance_in l.stock l.cuts l.inst) l.initial.ws 0 l.initial.count) l.initial.ws l.round l.base l.count l.ws
+    × RunTo (instance_in l.stock l.cuts l.inst) l.h l.n.survivors l.n.generations (population_in (instance_in l.stock l.cuts l.inst) l.initial.ws 0 l.initial.count) l.initial.ws l._round l.base l.count l.ws
     × (behind_blocks l.free ≡ behind_blocks l.initial.free)
-
-abbrev pub decreases-loop-round : goal.decreases-loop-round
-decreases-loop-round l = l.n.generations - l.round

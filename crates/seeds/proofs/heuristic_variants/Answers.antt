@@ -1,12 +1,8 @@
 -- `seeds::heuristic_variants` meets its contract.
-use Rattle.std.proofs.Common.{[], ◌∷◌, arith}
+use Rattle.std.proofs.Common.{[], ◌∷◌}
 use Rattle.model.specs.Search.{heuristic_variants}
-use Rattle.seeds.specs.Rows.{rows_of}
 use Rattle.seeds.proofs.heuristic_variants.Goals as goal
 
 pub returns : goal.returns
-unfolding rows_of heuristic_variants
-returns c = (
-  λ i. c.row-first.ensures i ∷ c.row.ensures i ∷ c.row-2.ensures i ∷ c.row-3.ensures i ∷ c.row-4.ensures i ∷ [],
-  omega arith,
-)
+unfolding heuristic_variants
+returns c = λ i. c.row.ensures i ∷ c.row-2.ensures i ∷ c.row-3.ensures i ∷ c.row-4.ensures i ∷ c.row-5.ensures i ∷ []

@@ -1,12 +1,12 @@
 -- The words of a part over zeros.
 use mathlib.Core.Path.{◌≡◌, ap, ◌∙◌}
 use mathlib.Core.List.{List, ◌++◌}
-use Prim.Native.Nat.{ℕ, ◌+◌, ◌-◌}
+use Prim.Native.Nat.{ℕ, ◌+◌}
 use native.Mathlib.Omega.{arith}
 use lib.ListN.{length, drop, replicate}
-use lib.Seq.{take-take}
 use Rattle.stored.specs.Slots.{filled}
 use Rattle.lists.specs.Parts.{part, patch}
+use Rattle.lists.proofs.Parts.{part_span}
 use Rattle.stored.proofs.get_words.Goals as goal
 
 pub returns : goal.returns
@@ -16,5 +16,5 @@ returns c =
     let words : List ℕ = part block c.args.at c.args.n in
     let first : 0 + length words ≡ length words = omega arith in
     c.put_words.ensures
-    ∙ ap (patch (replicate 64 0) 0) (take-take c.args.n (length block - c.args.at) (drop c.args.at block) (omega (arith, c.requires.1)))
+    ∙ ap (patch (replicate 64 0) 0) (part_span block c.args.at c.args.n)
     ∙ ap (λ (n : ℕ). words ++ drop n (replicate 64 0)) first

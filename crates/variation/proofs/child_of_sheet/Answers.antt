@@ -6,14 +6,13 @@ use mathlib.Core.List.{List, []}
 use mathlib.Core.Option.{some}
 use lib.ListN.{length, get_or}
 use Rattle.model.specs.Expand.{ProblemInstance}
-use Rattle.model.specs.Search.{child_of}
 use Rattle.candidate.specs.declared.Candidate.{Candidate as Words}
 use Rattle.candidate.specs.Moves.{new_words}
 use Rattle.candidate.specs.Stands.{instance_in, placed_words, candidate_in, Stands}
 use Rattle.candidate.proofs.Instances.{cut_count}
 use Rattle.candidate.proofs.Standing.{few_placed}
 use Rattle.variation.specs.Donated.{with_insertions, donated, child_words}
-use Rattle.variation.proofs.Answers.{no_child, one_child, index_most, board_most, index_found, made_few, made_rebuildable, answer_none, answer_some, sheet_few, child_is}
+use Rattle.variation.proofs.Answers.{index_most, board_most, index_found, made_few, made_rebuildable, answer_none, answer_some, sheet_few, child_is}
 use Rattle.variation.proofs.child_of_sheet.Goals as goal
 
 pub offset_bounds-right-index : goal.offset_bounds-right-index
@@ -48,7 +47,7 @@ returns-then-not-rebuild_board c =
     let none = answer_none inst c.requires.0.admitted c.requires.0.ranged c.args.h c.args.left c.args.right c.requires.1 c.requires.2 c.args.index c.requires.3 c.donor_insertions-made.result made
     (sym c.rebuild_board.ensures.0 ∙ c.if-not-rebuild_board.true)
     in
-    (no_child inst (child_of inst c.args.h (candidate_in inst c.args.left) (candidate_in inst c.args.right)) c.args.left none, c.rebuild_board.ensures.1)
+    (none, c.rebuild_board.ensures.1)
 
 pub child_sheet-sheet-requires : goal.child_sheet-sheet-requires
 child_sheet-sheet-requires c = index_found (instance_in c.args.stock.now c.args.cuts.now c.args.inst) c.requires.0.admitted c.requires.0.ranged c.args.h c.args.left c.args.right c.requires.1 c.requires.2 c.args.index c.requires.3
@@ -67,7 +66,6 @@ returns c =
     let stock : List ℕ = c.args.stock.now in
     let cuts : List ℕ = c.args.cuts.now in
     let inst : ProblemInstance = instance_in stock cuts c.args.inst in
-    let o = child_of inst c.args.h (candidate_in inst c.args.left) (candidate_in inst c.args.right) in
     let words : List ℕ = donated (placed_words c.args.right) (get_or c.args.right.boards c.args.index 0) c.args.h in
     let made = c.donor_insertions-made.ensures ∙ ap (λ (k : Words). with_insertions k words) c.new_candidate-new.ensures in
     let answer = answer_some inst c.requires.0.admitted c.requires.0.ranged c.args.h c.args.left c.args.right c.requires.1 c.requires.2 c.args.index c.requires.3 c.donor_insertions-made.result made
@@ -77,6 +75,6 @@ returns c =
     child_is inst c.requires.0.admitted c.requires.0.ranged c.args.h c.args.left c.args.right c.requires.1 c.requires.2 c.args.index c.requires.3 c.donor_insertions-made.result made c.child_sheet-sheet.result c.others_unused.result c.args.inst.cuts
     c.child_sheet-sheet.ensures (cut_count stock cuts c.args.inst) c.others_unused.ensures
     in (
-      one_child inst o c.others_unused.result (answer.0 ∙ ap (λ (k : Words). some (candidate_in inst k)) (sym result)) (subst (Stands inst []) (sym result) answer.1),
+      record { is = answer.0 ∙ ap (λ (k : Words). some (candidate_in inst k)) (sym result); stands = subst (Stands inst []) (sym result) answer.1 },
       c.rebuild_board.ensures.1,
     )

@@ -1,12 +1,7 @@
 -- The loop's invariant: the insertions so far, sorted out.
-use Prim.Native.Nat.{◌+◌, ◌-◌, ◌≤◌}
-use mathlib.Core.Path.{◌≡◌}
-use lib.ListN.{length}
+use Prim.Native.Nat.{◌+◌, ◌≤◌}
 use Rattle.variation.proofs.Apart.{Sorted}
 use Rattle.variation.proofs.take_apart.Given as goal
 
-abbrev pub invariant-loop-i : goal.invariant-loop-i
-invariant-loop-i l = (l.i ≤ l.c.placed) × (l.c.placed + l.c.unused_count ≤ 64) × (length l.c.insertions ≡ 64) × Sorted l.c l.board l.i l.after l.kept l.unused
-
-abbrev pub decreases-loop-i : goal.decreases-loop-i
-decreases-loop-i l = l.c.placed - l.i
+abbrev pub invariant-loop-word : goal.invariant-loop-word
+invariant-loop-word l = (l.fn.c.placed + l.fn.c.unused_count ≤ 64) × Sorted l.fn.c l.board l.word-index l.after l.kept l.unused

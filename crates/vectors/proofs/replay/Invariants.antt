@@ -1,9 +1,9 @@
--- `vectors::replay` is safe and ends.
-use Rattle.std.proofs.Common.{length, ◌-◌, ◌≤◌}
+-- Each pair makes the rest of the corpus shorter.
+use Rattle.std.proofs.Common.{length, ◌+◌, ◌≤◌}
 use Rattle.vectors.proofs.replay.Given as goal
 
-abbrev pub invariant-loop-at : goal.invariant-loop-at
-invariant-loop-at g l = (l.equal ≤ l.pairs) × (l.pairs ≤ l.at) × (l.at ≤ length l.corpus)
+abbrev pub invariant-loop-rest : goal.invariant-loop-rest
+invariant-loop-rest l = (l.tally.equal ≤ l.tally.pairs) × (l.tally.pairs + length l.rest ≤ length l.corpus)
 
-abbrev pub decreases-loop-at : goal.decreases-loop-at
-decreases-loop-at g l = length l.corpus - l.at
+abbrev pub decreases-loop-rest : goal.decreases-loop-rest
+decreases-loop-rest l = length l.rest

@@ -1,0 +1,81 @@
+-- What a buffer holds: nothing put in, one text after another, and what is put into a full buffer.
+use Prim.Native.Nat.{ℕ, zero, suc, ◌+◌, ◌-◌, ◌≤◌, ◌<◌, min}
+use native.Mathlib.Nat.{sub-zero}
+use native.Mathlib.Numerals.{add-one}
+use native.Mathlib.Omega.{arith}
+use mathlib.Core.Path.{◌≡◌, refl, sym, ap, ◌∙◌}
+use mathlib.Core.List.{List, [], ◌∷◌, ◌++◌, append_assoc, append-nil}
+use lib.ListN.{length, take, set, length-append, length-take}
+use lib.Seq.{take_all, take-suc-set}
+use borrow.Rule.Slice.PartMut.{put_mid}
+use Rattle.std.proofs.lemmas.Slice.{take-put_mid}
+use Rattle.lists.specs.Base.{concat_map, count_from, range}
+use Rattle.lists.proofs.Arrays.{take_min}
+use Rattle.lists.proofs.Counts.{counted_split, counted_next}
+use Rattle.append.specs.Appending.{with_bytes}
+
+take_nil : (k : ℕ) (l : List ℕ) → l ≡ [] → take k l ≡ []
+take_nil zero l e = refl
+take_nil (suc k) l e = rw e refl
+
+take_both : (k : ℕ) (s t : List ℕ) → take k (s ++ t) ≡ take k s ++ take (k - length s) t
+take_both zero s t = let e : 0 - length s ≡ 0 = omega arith in rw e refl
+take_both (suc k) [] t = ap (λ (j : ℕ). take j t) (sym (sub-zero (suc k)))
+take_both (suc k) (x ∷ s) t = let e : suc k - length (x ∷ s) ≡ k - length s = omega arith in rw e (ap (λ (r : List ℕ). x ∷ r) (take_both k s t))
+
+pub with_bytes-nil : (room : ℕ) (held : List ℕ) → with_bytes room held [] ≡ held
+unfolding with_bytes
+with_bytes-nil room held = ap (λ (r : List ℕ). held ++ r) (take_nil (room - length held) [] refl) ∙ append-nil held
+
+pub with_bytes-append : (room : ℕ) (held s t : List ℕ) → with_bytes room held (s ++ t) ≡ with_bytes room (with_bytes room held s) t
+unfolding with_bytes
+with_bytes-append room held s t =
+    let k = room - length held in
+    let left : k - length s ≡ room - length (held ++ take k s) = omega (arith, length-append held (take k s), length-take k s) in
+    ap (λ (r : List ℕ). held ++ r) (take_both k s t ∙ ap (λ (j : ℕ). take k s ++ take j t) left) ∙ sym (append_assoc held (take k s) (take (room - length (held ++ take k s)) t))
+
+-- one text put in after another
+pub bytes_then : (room : ℕ) (held s t : List ℕ) {l m : List ℕ} → l ≡ with_bytes room held s → m ≡ with_bytes room l t → m ≡ with_bytes room held (s ++ t)
+bytes_then room held s t p q = q ∙ ap (λ (k : List ℕ). with_bytes room k t) p ∙ sym (with_bytes-append room held s t)
+
+pub with_bytes-full : (room : ℕ) (held t : List ℕ) → room ≤ length held → with_bytes room held t ≡ held
+unfolding with_bytes
+with_bytes-full room held t h = let none : room - length held ≡ 0 = omega arith in ap (λ (j : ℕ). held ++ take j t) none ∙ append-nil held
+
+-- ---- texts of numbers one after the other, put in by a loop
+
+module _ (f : ℕ → List ℕ) (room : ℕ) (held : List ℕ) where
+  pub bytes_begin : held ≡ with_bytes room held (concat_map f (range 0))
+  unfolding concat_map count_from
+  bytes_begin = sym (with_bytes-nil room held)
+
+  pub bytes_next : (i : ℕ) {l m : List ℕ} → l ≡ with_bytes room held (concat_map f (range i)) → m ≡ with_bytes room l (f i) → m ≡ with_bytes room held (concat_map f (range (i + 1)))
+  bytes_next i p q = bytes_then room held _ _ p q ∙ ap (with_bytes room held) (counted_next f i)
+
+  -- a full buffer ends the loop early
+  pub bytes_stop : (i n : ℕ) {l : List ℕ} → l ≡ with_bytes room held (concat_map f (range i)) → i ≤ n → room ≤ length l → l ≡ with_bytes room held (concat_map f (range n))
+  bytes_stop i n {l} p h full =
+      let k : i + (n - i) ≡ n = omega arith in
+      bytes_then room held _ _ p (sym (with_bytes-full room l (concat_map f (count_from (0 + i) (n - i))) full))
+      ∙ ap (with_bytes room held) (sym (counted_split f 0 i (n - i)) ∙ ap (λ (j : ℕ). concat_map f (range j)) k)
+
+-- ---- one byte, and many at once
+
+pub with_byte : (room len byte : ℕ) (all : List ℕ) → length all ≡ room → len < room → take (len + 1) (set all len byte) ≡ with_bytes room (take len all) (byte ∷ [])
+unfolding with_bytes
+with_byte room len byte all e h =
+    let left : length (byte ∷ []) ≤ room - length (take len all) = omega (arith, length-take len all) in
+    ap (λ (k : ℕ). take k (set all len byte)) (add-one len)
+    ∙ take-suc-set all len byte (omega arith)
+    ∙ ap (λ (r : List ℕ). take len all ++ r) (sym (take_all (room - length (take len all)) (byte ∷ []) left))
+
+module _ (room len count k : ℕ) (all bytes put : List ℕ) where
+  pub with_part : length all ≡ room → len ≤ room → count ≡ min (length bytes) (room - len) → put ≡ take count bytes
+      → take (len + count) (put_mid len k all put) ≡ with_bytes room (take len all) bytes
+  unfolding with_bytes
+  with_part e h c p =
+      let held : length (take len all) ≡ len = omega (arith, length-take len all) in
+      let size : length put ≡ count = ap length p ∙ omega (arith, length-take count bytes) in
+      let same : put ≡ take (room - length (take len all)) bytes =
+      p ∙ ap (λ (j : ℕ). take j bytes) (c ∙ ap (λ (j : ℕ). min (length bytes) (room - j)) (sym held)) ∙ take_min (length bytes) (room - length (take len all)) bytes refl in
+      take-put_mid len k all put (len + count) (omega arith) (omega arith) ∙ ap (λ (r : List ℕ). take len all ++ r) same
