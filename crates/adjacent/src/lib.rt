@@ -9,6 +9,7 @@ ghost use Rattle.split.specs.Bounds.{Small};
 
 use model::Rect;
 
+// Sides in range and a thin kerf are clauses: as types they would be opened at each sum.
 // Whether the second rectangle lies right below the first, a kerf away.
 fn below(a: Rect, b: Rect, kerf_width: u32) -> bool
     requires { Small a × (kerf_width ≤ most_side) }

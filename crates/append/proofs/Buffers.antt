@@ -1,14 +1,13 @@
 -- What a buffer holds: nothing put in, one text after another, and what is put into a full buffer.
 use Prim.Native.Nat.{ℕ, zero, suc, ◌+◌, ◌-◌, ◌≤◌, ◌<◌, min}
 use native.Mathlib.Nat.{sub-zero}
-use native.Mathlib.Numerals.{add-one}
 use native.Mathlib.Omega.{arith}
 use mathlib.Core.Path.{◌≡◌, refl, sym, ap, ◌∙◌}
 use mathlib.Core.List.{List, [], ◌∷◌, ◌++◌, append_assoc, append-nil}
-use lib.ListN.{length, take, set, length-append, length-take}
-use lib.Seq.{take_all, take-suc-set}
-use borrow.Rule.Slice.PartMut.{put_mid}
-use Rattle.std.proofs.lemmas.Slice.{take-put_mid}
+use lib.ListN.{length, take, length-append, length-take}
+use lib.Seq.{take_all}
+use Rattle.std.proofs.Common.{Result, Ok, Err, IsOk, OnOk, OnErr, ◌↔◌}
+use Rattle.arrayvec.specs.ArrayVec.{ArrayVec}
 use Rattle.lists.specs.Base.{concat_map, count_from, range}
 use Rattle.lists.proofs.Arrays.{take_min}
 use Rattle.lists.proofs.Counts.{counted_split, counted_next}
@@ -61,21 +60,26 @@ module _ (f : ℕ → List ℕ) (room : ℕ) (held : List ℕ) where
 
 -- ---- one byte, and many at once
 
-pub with_byte : (room len byte : ℕ) (all : List ℕ) → length all ≡ room → len < room → take (len + 1) (set all len byte) ≡ with_bytes room (take len all) (byte ∷ [])
-unfolding with_bytes
-with_byte room len byte all e h =
-    let left : length (byte ∷ []) ≤ room - length (take len all) = omega (arith, length-take len all) in
-    ap (λ (k : ℕ). take k (set all len byte)) (add-one len)
-    ∙ take-suc-set all len byte (omega arith)
-    ∙ ap (λ (r : List ℕ). take len all ++ r) (sym (take_all (room - length (take len all)) (byte ∷ []) left))
-
-module _ (room len count k : ℕ) (all bytes put : List ℕ) where
-  pub with_part : length all ≡ room → len ≤ room → count ≡ min (length bytes) (room - len) → put ≡ take count bytes
-      → take (len + count) (put_mid len k all put) ≡ with_bytes room (take len all) bytes
+module _ (room : ℕ) (held : List ℕ) where
+  pub with_bytes-fits : (bytes : List ℕ) → length held + length bytes ≤ room → with_bytes room held bytes ≡ held ++ bytes
   unfolding with_bytes
-  with_part e h c p =
-      let held : length (take len all) ≡ len = omega (arith, length-take len all) in
-      let size : length put ≡ count = ap length p ∙ omega (arith, length-take count bytes) in
-      let same : put ≡ take (room - length (take len all)) bytes =
-      p ∙ ap (λ (j : ℕ). take j bytes) (c ∙ ap (λ (j : ℕ). min (length bytes) (room - j)) (sym held)) ∙ take_min (length bytes) (room - length (take len all)) bytes refl in
-      take-put_mid len k all put (len + count) (omega arith) (omega arith) ∙ ap (λ (r : List ℕ). take len all ++ r) same
+  with_bytes-fits bytes h = ap (λ (r : List ℕ). held ++ r) (take_all (room - length held) bytes (omega arith))
+
+  -- what `try_push` leaves, whether or not it had room
+  pub with_byte : {E : Type 0} (r : Result (Unit {0}) E) (byte : ℕ) (new : ArrayVec ℕ) → (IsOk r ↔ (length held < room)) → OnOk r (new.items ≡ held ++ byte ∷ [])
+      → OnErr r (new ≡ record { items = held }) → OnErr r (length held ≡ room) → new.items ≡ with_bytes room held (byte ∷ [])
+  with_byte (Ok x) byte new v e f g = e ∙ sym (with_bytes-fits (byte ∷ []) (omega (arith, v.0 refl)))
+  with_byte (Err x) byte new v e f g = ap (λ (w : ArrayVec ℕ). w.items) f ∙ sym (with_bytes-full room held (byte ∷ []) (omega (arith, g)))
+
+  -- as much as there is room for, which `try_extend_from_slice` takes
+  module _ (count left : ℕ) (bytes : List ℕ) (c : count ≡ min (length bytes) left) (l : left + length held ≡ room) where
+    part : held ++ take count bytes ≡ with_bytes room held bytes
+    unfolding with_bytes
+    part =
+        let same : left ≡ room - length held = omega arith in
+        ap (λ (r : List ℕ). held ++ r) (ap (λ (j : ℕ). take j bytes) c ∙ take_min (length bytes) left bytes refl ∙ ap (λ (j : ℕ). take j bytes) same)
+
+    pub with_part : {E : Type 0} (r : Result (Unit {0}) E) (new : List ℕ) → (IsOk r ↔ (length held + length (take count bytes) ≤ room)) → OnOk r (new ≡ held ++ take count bytes)
+        → new ≡ with_bytes room held bytes
+    with_part (Ok x) new v e = e ∙ part
+    with_part (Err x) new v e = let no : IsOk {T = Unit {0}} (Err x) = v.1 (omega (arith, length-take count bytes, c)) in cc

@@ -2,27 +2,27 @@
 // word `with_bytes`.
 #![tactic(auto)]
 
-ghost use Rattle.std.specs.Prelude.{List, ℕ, [], ◌∷◌, ◌++◌, ◌≤◌, ◌<◌, ◌≡◌, ◌↔◌, IsTrue, length, take};
+ghost use Rattle.std.specs.Prelude.{[], ◌∷◌, ◌≤◌, ◌<◌, ◌≡◌, ◌↔◌, IsTrue, length};
 ghost use Rattle.model.specs.FileOf.{bytes_of};
 ghost use Rattle.append.specs.Appending.{with_bytes};
 ghost use Rattle.append.specs.Numerals.{decimal_of, hex_digits, hex_digit};
 
+use arrayvec::ArrayVec;
 use std::marker::Model;
 
 // At most `N` bytes.
 #[derive(Drop)]
 pub struct Buffer<const N: usize> {
-    bytes: [u8; N],
-    len: usize,
+    bytes: ArrayVec<u8, N>,
 }
 
 // Clauses see the bytes that were put in.
 impl<const N: usize> Model for Buffer<N> {
+    ghost use Rattle.std.specs.Prelude.{List, ℕ};
+
     ghost Value = { List ℕ };
 
-    ghost view = { λ b. take b.len b.bytes };
-
-    ghost invariant = { λ b. b.len ≤ N };
+    ghost view = { λ b. b.bytes.items };
 }
 
 impl<const N: usize> Buffer<N> {
@@ -30,8 +30,7 @@ impl<const N: usize> Buffer<N> {
         ensures { result ≡ [] }
     {
         Buffer {
-            bytes: [0; N],
-            len: 0,
+            bytes: ArrayVec::new(),
         }
     }
 
@@ -39,32 +38,26 @@ impl<const N: usize> Buffer<N> {
         ensures bytes { result.now ≡ self.now }
         ensures within { length self.now ≤ N }
     {
-        &self.bytes[..self.len]
+        self.bytes.as_slice()
     }
 
     pub fn is_full(&self) -> bool
         ensures { IsTrue result ↔ (length self.now ≡ N) }
     {
-        self.len == N
+        self.bytes.is_full()
     }
 
     pub fn push(&mut self, byte: u8)
         ensures { self.new ≡ with_bytes N self.old (byte ∷ []) }
     {
-        if self.len < N {
-            self.bytes[self.len] = byte;
-            self.len += 1;
-        }
+        let _fits = self.bytes.try_push(byte);
     }
 
     pub fn push_bytes(&mut self, bytes: &[u8])
         ensures { self.new ≡ with_bytes N self.old bytes.now }
     {
-        let count = bytes.len().min(N - self.len);
-        let end = self.len + count;
-        let all = &mut self.bytes[..];
-        all[self.len..end].copy_from_slice(&bytes[..count]);
-        self.len = end;
+        let count = bytes.len().min(self.bytes.remaining_capacity());
+        let _fits = self.bytes.try_extend_from_slice(&bytes[..count]);
     }
 
     // The lowest `count` bytes of a number, the lowest first.

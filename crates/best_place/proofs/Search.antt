@@ -18,17 +18,15 @@ use Rattle.model.specs.Sheet.{Place, places, score_less, best_place}
 use Rattle.patterns.specs.declared.Ways.{Ways}
 use Rattle.patterns.specs.Orientation.{ways_to_lie}
 use Rattle.fits.specs.FitList.{fits_of}
-use Rattle.fits.specs.ByWays.{lies_any_way, fits_by_ways}
+use Rattle.fits.specs.ByWays.{fits_by_ways}
 use Rattle.fits.proofs.Orientations.{any_way, fits_by_ways_all}
 use Rattle.choice.specs.declared.Score.{Score}
 use Rattle.choice.specs.contracts.ScorePartialOrd.TheImpl.{partial_cmp-value}
 use Rattle.choice.specs.Numbers.{numbers_of}
 use Rattle.choice.proofs.Order.{not_lower}
 use Rattle.best_place.specs.declared.ScoredPlace.{ScoredPlace}
-use Rattle.best_place.specs.Places.{IsNextFit, place_at, places_by_ways, best_over, place_of, Scored, Over, FindsBest}
+use Rattle.best_place.specs.Places.{LiesIn, IsNextFit, place_at, places_by_ways, best_over, place_of, Scored, Over, FindsBest}
 use Rattle.model.specs.Types.{no_rect}
-use Rattle.rect_words.proofs.Words.{length_rects, get_rects}
-use Rattle.rect_words.specs.SheetWords.{rect_at, rects_in}
 
 -- ---- the best of what is there and of more
 
@@ -113,21 +111,19 @@ module _ (ways : Ways) (cut : CutInstance) (rotation : RotationPreference) where
   places_append i (x ∷ xs) ys =
       let on : suc i + length xs ≡ i + length (x ∷ xs) = omega arith in rw (places_append (suc i) xs ys, on, append_assoc)
 
-  module _ (w : List ℕ) (k : ℕ) (h : k < get_or w 0 0) where
+  module _ (l : List Rect) (k : ℕ) (h : k < length l) where
     -- the rectangle at k and its places
-    pub places_step : places_by_ways ways cut rotation 0 (take (k + 1) (rects_in w))
-        ≡ places_by_ways ways cut rotation 0 (take k (rects_in w)) ++ map (place_at k (rect_at w k)) (fits_by_ways ways cut (rect_at w k) rotation)
+    pub places_step : places_by_ways ways cut rotation 0 (take (k + 1) l)
+        ≡ places_by_ways ways cut rotation 0 (take k l) ++ map (place_at k (get_or l k no_rect)) (fits_by_ways ways cut (get_or l k no_rect) rotation)
     unfolding places_by_ways
     places_step =
-        let here : take (k + 1) (rects_in w) ≡ take k (rects_in w) ++ (rect_at w k ∷ []) =
-        rw (add-one, take-suc (rects_in w) k no_rect (omega (arith, length_rects w)), get_rects w k h) in
-        let first : length (take k (rects_in w)) ≡ k = omega (arith, length_rects w, length-take k (rects_in w)) in
-        rw (here, places_append 0 (take k (rects_in w)) (rect_at w k ∷ []), first) (simp (zero-add, append-nil))
+        let r = get_or l k no_rect in
+        let first : length (take k l) ≡ k = omega (arith, length-take k l) in
+        rw (add-one, take-suc l k no_rect h, places_append 0 (take k l) (r ∷ []), first) (simp (zero-add, append-nil))
 
     -- no place there
-    pub places_miss : lies_any_way ways cut.width cut.length (rect_at w k).width (rect_at w k).length ≡ false
-        → places_by_ways ways cut rotation 0 (take (k + 1) (rects_in w)) ≡ places_by_ways ways cut rotation 0 (take k (rects_in w))
-    places_miss e = rw (places_step, no_fit _ (any_way ways cut (rect_at w k) rotation ∙ e)) (append-nil _)
+    pub places_miss : LiesIn ways cut.width cut.length l k false → places_by_ways ways cut rotation 0 (take (k + 1) l) ≡ places_by_ways ways cut rotation 0 (take k l)
+    places_miss e = rw (places_step, no_fit _ (any_way ways cut (get_or l k no_rect) rotation ∙ e)) (append-nil _)
 
 -- ---- the definition's places
 
@@ -139,50 +135,42 @@ module _ (cut : CutInstance) (pattern : PatternDirection) (rotation : RotationPr
   places_all i [] = refl
   places_all i (r ∷ l) = rw (fits_by_ways_all cut pattern r rotation, places_all (suc i) l)
 
-module _ (w : List ℕ) (ways : Ways) (cut : CutInstance) (h : BaselineGuillotineHeuristic) where
+module _ (l : List Rect) (ways : Ways) (cut : CutInstance) (h : BaselineGuillotineHeuristic) where
   -- the places in the rectangles before k
   abbrev pub seen : ℕ → List Place
-  seen k = places_by_ways ways cut h.rotation 0 (take k (rects_in w))
+  seen k = places_by_ways ways cut h.rotation 0 (take k l)
 
   -- one more rectangle in which the cut fits, and one in which it does not
-  pub seen_hit : (b r : Option ScoredPlace) (k : ℕ) → k < get_or w 0 0 → Over h None (seen k) b
-      → Over h b (map (place_at k (rect_at w k)) (fits_by_ways ways cut (rect_at w k) h.rotation)) r → Over h None (seen (k + 1)) r
-  seen_hit b r k l before here = rw (places_step ways cut h.rotation w k l) (over_then h None b r _ _ before here)
-
-  pub seen_miss : (b : Option ScoredPlace) (k : ℕ) → k < get_or w 0 0 → lies_any_way ways cut.width cut.length (rect_at w k).width (rect_at w k).length ≡ false
-      → Over h None (seen k) b → Over h None (seen (k + 1)) b
-  seen_miss b k l e before = rw (places_miss ways cut h.rotation w k l e) before
+  pub seen_hit : (b r : Option ScoredPlace) (k : ℕ) → k < length l → Over h None (seen k) b
+      → Over h b (map (place_at k (get_or l k no_rect)) (fits_by_ways ways cut (get_or l k no_rect) h.rotation)) r → Over h None (seen (k + 1)) r
+  seen_hit b r k i before here = rw (places_step ways cut h.rotation l k i) (over_then h None b r _ _ before here)
 
   -- on to the next rectangle in which the cut fits, or past the last
-  seen_skip : (n i k : ℕ) → i + n ≡ k → k ≤ get_or w 0 0
-      → ((j : ℕ) → i ≤ j → j < k → lies_any_way ways cut.width cut.length (rect_at w j).width (rect_at w j).length ≡ false) → seen i ≡ seen k
-  seen_skip zero i k e l none = let same : i ≡ k = omega arith in ap seen same
-  seen_skip (suc n) i k e l none =
+  seen_skip : (n i k : ℕ) → i + n ≡ k → k ≤ length l → ((j : ℕ) → i ≤ j → j < k → LiesIn ways cut.width cut.length l j false) → seen i ≡ seen k
+  seen_skip zero i k e m none = let same : i ≡ k = omega arith in ap seen same
+  seen_skip (suc n) i k e m none =
       let on : i + 1 + n ≡ k = omega arith in
-      sym (places_miss ways cut h.rotation w i (omega arith) (none i (omega arith) (omega arith)))
-      ∙ seen_skip n (i + 1) k on l (λ j p q. none j (omega arith) q)
+      sym (places_miss ways cut h.rotation l i (omega arith) (none i (omega arith) (omega arith)))
+      ∙ seen_skip n (i + 1) k on m (λ j p q. none j (omega arith) q)
 
-  pub seen_next : (b : Option ScoredPlace) (i : ℕ) (o : Option ℕ) → i ≤ get_or w 0 0 → IsNextFit w ways cut.width cut.length i o
-      → Over h None (seen i) b → Over h None (seen (unwrap_or o (get_or w 0 0))) b
-  seen_next b i None l n before =
-      rw (← seen_skip (get_or w 0 0 - i) i (get_or w 0 0) (omega arith) (omega arith) n.none_before) before
-  seen_next b i (Some k) l n before =
-      rw (← seen_skip (k - i) i k (omega arith) (omega arith) n.none_before) before
+  pub seen_next : (b : Option ScoredPlace) (i : ℕ) (o : Option ℕ) → i ≤ length l → IsNextFit l ways cut.width cut.length i o
+      → Over h None (seen i) b → Over h None (seen (unwrap_or o (length l))) b
+  seen_next b i None m n before = rw (← seen_skip (length l - i) i (length l) (omega arith) (omega arith) n.none_before) before
+  seen_next b i (Some k) m n before = rw (← seen_skip (k - i) i k (omega arith) (omega arith) n.none_before) before
 
-  pub next_on : (i : ℕ) (o : Option ℕ) → i ≤ get_or w 0 0 → IsNextFit w ways cut.width cut.length i o → i ≤ unwrap_or o (get_or w 0 0)
-  next_on i None l n = l
-  next_on i (Some k) l n = n.fits.0
+  pub next_on : (i : ℕ) (o : Option ℕ) → i ≤ length l → IsNextFit l ways cut.width cut.length i o → i ≤ unwrap_or o (length l)
+  next_on i None m n = m
+  next_on i (Some k) m n = n.fits.0
 
-  pub next_inside : (i : ℕ) (o : Option ℕ) → IsNextFit w ways cut.width cut.length i o → IfSome o (λ k. k < get_or w 0 0)
+  pub next_inside : (i : ℕ) (o : Option ℕ) → IsNextFit l ways cut.width cut.length i o → IfSome o (λ k. k < length l)
   next_inside i None n = tt
   next_inside i (Some k) n = n.fits.1
 
   -- all of them: the definition's best place
-  pub seen_all : (pattern : PatternDirection) (k : ℕ) (r : Option ScoredPlace) → ways ≡ ways_to_lie cut pattern → get_or w 0 0 ≤ k
-      → Over h None (seen k) r → FindsBest w cut pattern h r
+  pub seen_all : (pattern : PatternDirection) (r : Option ScoredPlace) → ways ≡ ways_to_lie cut pattern → Over h None (seen (length l)) r → FindsBest l cut pattern h r
   unfolding best_over best_place places
-  seen_all pattern k r e l o =
+  seen_all pattern r e o =
       record {
-        place = λ s v. rw (take_all k (rects_in w) (omega (arith, length_rects w)), e, places_all cut pattern h.rotation 0 (rects_in w), ← v.rects, ← v.grain) at o.place;
+        place = λ s v. rw (take_all (length l) l (omega arith), e, places_all cut pattern h.rotation 0 l, ← v.rects, ← v.grain) at o.place;
         scored = o.scored;
       }

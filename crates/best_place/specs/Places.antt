@@ -1,5 +1,5 @@
 -- The search for the best place: the places that are looked at, and what is best so far.
-use Rattle.std.specs.Prelude.{ℕ, suc, ◌≡◌, ◌≤◌, ◌<◌, Bool, false, true, Option, Some, None, IfSome, unwrap_or, get_or, List, [], ◌∷◌, ◌++◌, map}
+use Rattle.std.specs.Prelude.{ℕ, suc, ◌≡◌, ◌≤◌, ◌<◌, Bool, false, true, Option, Some, None, IfSome, unwrap_or, length, get_or, List, [], ◌∷◌, ◌++◌, map}
 use Rattle.std.proofs.Math.Option as Defined
 use Rattle.lists.specs.Base.{keep_best, first_best}
 use Rattle.model.specs.declared.PatternDirection.{PatternDirection}
@@ -14,12 +14,15 @@ use Rattle.patterns.specs.declared.Ways.{Ways}
 use Rattle.fits.specs.ByWays.{lies_any_way, fits_by_ways}
 use Rattle.choice.specs.Numbers.{numbers_of}
 use Rattle.best_place.specs.declared.ScoredPlace.{ScoredPlace}
-use Rattle.rect_words.specs.SheetWords.{rect_at, Shows}
+use Rattle.model.specs.Types.{no_rect}
 
 -- of the rectangles from an index on, the first in which a cut of these sides lies
-pub record IsNextFit (words : List ℕ) (ways : Ways) (width length from : ℕ) (r : Option ℕ) : Type 0 where
-  pub fits : IfSome r (λ k. (from ≤ k) × (k < get_or words 0 0) × (lies_any_way ways width length (rect_at words k).width (rect_at words k).length ≡ true))
-  pub none_before : (k : ℕ) → from ≤ k → k < unwrap_or r (get_or words 0 0) → lies_any_way ways width length (rect_at words k).width (rect_at words k).length ≡ false
+abbrev pub LiesIn : Ways → (width len : ℕ) → List Rect → ℕ → Bool → Type 0
+LiesIn ways width len rects k b = lies_any_way ways width len (get_or rects k no_rect).width (get_or rects k no_rect).length ≡ b
+
+pub record IsNextFit (rects : List Rect) (ways : Ways) (width len from : ℕ) (r : Option ℕ) : Type 0 where
+  pub fits : IfSome r (λ k. (from ≤ k) × (k < length rects) × LiesIn ways width len rects k true)
+  pub none_before : (k : ℕ) → from ≤ k → k < unwrap_or r (length rects) → LiesIn ways width len rects k false
 
 abbrev pub place_at : ℕ → Rect → FitResult → Place
 place_at k r f = record { index = k; free_rect = r; fit = f }
@@ -49,7 +52,12 @@ pub record Over (h : BaselineGuillotineHeuristic) (before : Option ScoredPlace) 
   pub place : place_of r ≡ best_over (score_less h) (place_of before) further
   pub scored : Scored h r
 
--- the best place of the cut on any sheet that the words show
-pub record FindsBest (words : List ℕ) (cut : CutInstance) (pattern : PatternDirection) (h : BaselineGuillotineHeuristic) (r : Option ScoredPlace) : Type 0 where
-  pub place : (s : GuillotineSheet) → Shows words pattern s → place_of r ≡ best_place s (record { cut = cut; heuristic = h })
+-- the rectangles are the sheet's, the pattern is its board's
+pub record Shows (free : List Rect) (pattern : PatternDirection) (sheet : GuillotineSheet) : Type 0 where
+  pub rects : sheet.free_rects ≡ free
+  pub grain : sheet.stock.pattern ≡ pattern
+
+-- the best place of the cut on any sheet that has these rectangles
+pub record FindsBest (rects : List Rect) (cut : CutInstance) (pattern : PatternDirection) (h : BaselineGuillotineHeuristic) (r : Option ScoredPlace) : Type 0 where
+  pub place : (s : GuillotineSheet) → Shows rects pattern s → place_of r ≡ best_place s (record { cut = cut; heuristic = h })
   pub scored : Scored h r

@@ -1,24 +1,23 @@
-// The best place of a cut among a sheet's free rectangles: the first fit of lowest score. A search that finds none reads two words a rectangle.
+// The best place of a cut among a sheet's free rectangles: the first fit of lowest score. A search that finds none reads two sides a rectangle.
 #![tactic(auto)]
 
 ghost use Rattle.std.specs.Prelude.{◌≡◌, ◌∷◌, [], map};
 ghost use Rattle.fits.specs.ByWays.{fits_by_ways};
-ghost use Rattle.rect_words.specs.SheetWords.{Block};
 ghost use Rattle.best_place.specs.Places.{IsNextFit, place_at, Scored, Over, FindsBest};
 
 use choice::Score;
 use model::{BaselineGuillotineHeuristic, CutInstance, FitResult, PatternDirection, Rect};
 use patterns::Ways;
 
+// Sides, cut and pattern are apart as in the source: a struct of them would be made for one call and taken apart in it. A rectangle has its number
+// beside it as a slice numbers it.
+
 // The first rectangle from an index on in which a cut of these sides fits in one of the ways.
-#[tactic(auto, unfolding(rect_words::specs::SheetWords::rect_at))]
-fn next_fit(sheet: &[u32], ways: Ways, width: u32, length: u32, from: usize) -> Option<usize>
-    requires { Block sheet.now }
-    ensures { IsNextFit sheet.now ways width length from result }
+fn next_fit(free: &[Rect], ways: Ways, width: u32, length: u32, from: usize) -> Option<usize>
+    ensures { IsNextFit free.now ways width length from result }
 {
-    for index in from..sheet[0] as usize {
-        let at = 4 * index + 1;
-        if fits::lies_any_way(ways, width, length, sheet[at + 2], sheet[at + 3]) {
+    for index in from..free.len() {
+        if fits::lies_any_way(ways, width, length, free[index].width, free[index].length) {
             return Some(index);
         }
     }
@@ -80,21 +79,20 @@ fn consider_rect(
 // The first fit of lowest score, by rectangle and then by fit. One `for` over all rectangles was proved too: an attempt that finds nothing
 // then took up to twice as long.
 pub fn best_fit(
-    sheet: &[u32],
+    free: &[Rect],
     cut: CutInstance,
     stock_pattern: PatternDirection,
     heuristic: BaselineGuillotineHeuristic,
 ) -> Option<ScoredPlace>
-    requires { Block sheet.now }
-    ensures { FindsBest sheet.now cut stock_pattern heuristic result }
+    ensures { FindsBest free.now cut stock_pattern heuristic result }
 {
     let ways = patterns::ways_to_lie(cut, stock_pattern);
     let mut best = None;
-    let mut next = next_fit(sheet, ways, cut.width, cut.length, 0);
+    let mut next = next_fit(free, ways, cut.width, cut.length, 0);
     while let Some(index) = next {
-        let free_rect = rect_words::rect_at(sheet, index);
+        let free_rect = free[index];
         best = consider_rect(best, index, free_rect, ways, cut, heuristic);
-        next = next_fit(sheet, ways, cut.width, cut.length, index + 1);
+        next = next_fit(free, ways, cut.width, cut.length, index + 1);
     }
     best
 }

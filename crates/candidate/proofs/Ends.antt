@@ -24,21 +24,6 @@ module _ (stock : ℕ) (k : Words) (j cut : ℕ) (h : BaselineGuillotineHeuristi
 
   -- a new sheet, as its words are put together
   pub sheet_made : (word : ℕ) (r : Words) (boards : List ℕ) → r ≡ with_insertion k word → boards ≡ moved_up k.boards j k.sheets
-      → record {
-        boards = boards;
-        sheets = k.sheets + 1;
-        insertions = r.insertions;
-        placed = r.placed;
-        unused = r.unused;
-        unused_count = r.unused_count;
-      }
-      ≡ with_sheet (with_insertion k word) j
+      → record { boards = boards; sheets = r.sheets + 1; insertions = r.insertions; unused = r.unused } ≡ with_sheet (with_insertion k word) j
   unfolding with_insertion with_sheet
-  sheet_made word r boards e f = λ i. record {
-    boards = f i;
-    sheets = k.sheets + 1;
-    insertions = (e i).insertions;
-    placed = (e i).placed;
-    unused = (e i).unused;
-    unused_count = (e i).unused_count;
-  }
+  sheet_made word r boards e f = λ i. record { boards = f i; sheets = (e i).sheets + 1; insertions = (e i).insertions; unused = (e i).unused }

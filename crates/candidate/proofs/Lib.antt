@@ -2,7 +2,6 @@
 pub mod Codes
 pub mod Lists
 pub mod Ends
-pub mod Instances
 pub mod FirstFit
 pub mod Makings
 pub mod Start

@@ -16,7 +16,8 @@ use Rattle.model.specs.declared.StockInstance.{StockInstance}
 use Rattle.model.specs.Sheet.{GuillotineSheet, Insertion, new_sheet, try_insert, rebuild}
 use Rattle.model.specs.Expand.{ProblemInstance}
 use Rattle.candidate.specs.Entries.{board_of, on_board}
-use Rattle.candidate.specs.Stands.{board_in, insertion_in, making_in, bin_in}
+use Rattle.candidate.specs.Stands.{insertion_in, making_in, bin_in}
+use Rattle.problem.specs.Problem.{board_in}
 
 -- ---- rebuilding
 

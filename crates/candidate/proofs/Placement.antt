@@ -6,7 +6,7 @@ use mathlib.Core.Bool.{Bool, true, false}
 use mathlib.Core.List.{List, [], ◌∷◌, ◌++◌, map, append_assoc, Memᴰ}
 use mathlib.Core.Option.{none, some}
 use lib.Dec.{ltb, eqb}
-use lib.ListN.{length, get_or, set, take, drop, length-drop, get_or-map}
+use lib.ListN.{length, get_or, set, take, drop, length-append, length-drop, get_or-map}
 use lib.Seq.{take-take, get_or-take, get_or-drop, take-append-add, drop-append-add}
 use borrow.Author.Tests.{ltb-true, ltb-false, eqb-true, eqb-false}
 use Rattle.lists.specs.Base.{range, remove_at}
@@ -14,7 +14,6 @@ use Rattle.lists.proofs.Perm.{Perm, perm_sym, perm_append_left, perm_middle, als
 use Rattle.lists.proofs.Sums.{length-map, map_append}
 use Rattle.lists.proofs.Every.{all_get, get_mem, pairs_left}
 use Rattle.lists.proofs.Maps.{map_remove_at}
-use Rattle.lists.proofs.Arrays.{take_push}
 use Rattle.model.specs.declared.BaselineGuillotineHeuristic.{BaselineGuillotineHeuristic}
 use Rattle.model.specs.declared.CutInstance.{CutInstance}
 use Rattle.model.specs.Sheet.{GuillotineSheet, Insertion, new_sheet, try_insert, rebuild}
@@ -27,13 +26,14 @@ use Rattle.copying.specs.Inserted.{insert_at}
 use Rattle.candidate.specs.declared.Candidate.{Candidate as Words}
 use Rattle.candidate.specs.Entries.{insertion_word, board_of, cut_of}
 use Rattle.candidate.specs.Moves.{moved_up, with_insertion, with_unused, with_sheet, first_fit_in, take_place}
-use Rattle.candidate.specs.Stands.{Stands, board_in, cut_in, insertion_in, making_in, bin_in, sheet_boards, available_boards, placed_words, unused_numbers, candidate_in}
+use Rattle.candidate.specs.Stands.{Stands, insertion_in, making_in, bin_in, sheet_boards, available_boards, placed_words, unused_numbers, candidate_in}
+use Rattle.problem.specs.Problem.{board_in, cut_in}
 use Rattle.candidate.proofs.Codes.{board_back, cut_back, row_back}
 use Rattle.candidate.proofs.Lists.{Other, other_sym, map_set, map_else, moved_front, moved_parts, moved_perm, length_moved}
 use Rattle.candidate.proofs.Ends.{end_unused, end_sheet, end_new}
 use Rattle.candidate.proofs.FirstFit.{Refuses, TakenAt, Found, taken, refused, first_fit_lem, taken_inside, taken_get, taken_before, taken_behind, in_bins_lem, no_bin_lem, on_stock, no_stock_lem}
 use Rattle.candidate.proofs.Makings.{making_other, bin_other, rebuilt_bin, rebuilt_same}
-use Rattle.candidate.proofs.Standing.{RebuiltOn, few_boards_lem, length_all_boards, length_sheets, boards_split, boards_once_lem, sheets_apart, bins_split, rebuilt_all, few_placed, next_known, unused_stays}
+use Rattle.candidate.proofs.Standing.{RebuiltOn, few_boards_lem, length_all_boards, length_sheets, boards_split, boards_once_lem, sheets_apart, bins_split, rebuilt_all, next_known, unused_stays}
 
 -- ---- the definition's three ends
 
@@ -59,7 +59,7 @@ joins a b x later =
     subst (λ (l : List ℕ). Perm l (a ++ (b ++ (x ∷ later)))) (sym (append_assoc a (x ∷ []) (b ++ later))) (perm_append_left a (perm_sym (perm_middle b x later)))
 
 module _ (inst : ProblemInstance) (a : Admitted inst) (r : Ranged inst) (k : Words) (cut : ℕ) (later : List ℕ) (h : BaselineGuillotineHeuristic)
-    (st : Stands inst (cut ∷ later) k) (room : length k.insertions ≡ 64) (spare : length k.unused ≡ 64) where
+    (st : Stands inst (cut ∷ later) k) where
   abbrev kerf : ℕ
   kerf = inst.kerf_width
 
@@ -77,9 +77,6 @@ module _ (inst : ProblemInstance) (a : Admitted inst) (r : Ranged inst) (k : Wor
 
   abbrev before : Candidate
   before = candidate_in inst k
-
-  placed_room : k.placed < length k.insertions
-  placed_room = omega (arith, room, few_placed inst (cut ∷ later) k st r)
 
   small_cut : cut < 64
   small_cut = omega (arith, next_known inst cut later k st, r.few_panels)
@@ -100,7 +97,7 @@ module _ (inst : ProblemInstance) (a : Admitted inst) (r : Ranged inst) (k : Wor
   module _ (j : ℕ) (past : length inst.stock ≤ j) (refuse : All (Refuses kerf insertion) (map (bin_in inst words) boards)) where
     unused_more : unused_numbers (with_unused k cut) ≡ unused_numbers k ++ (cut ∷ [])
     unfolding with_unused
-    unused_more = take_push k.unused_count k.unused cut (omega (arith, spare, few_placed inst (cut ∷ later) k st r))
+    unused_more = refl
 
     all_refuse : All (Refuses kerf insertion) before.bins × All (Refuses kerf insertion) (map new_sheet before.available_stock)
     all_refuse =
@@ -127,8 +124,8 @@ module _ (inst : ProblemInstance) (a : Admitted inst) (r : Ranged inst) (k : Wor
             room = st.room;
             sheets = st.sheets;
             boards = st.boards;
-            cuts = rw (unused_more, append_assoc (unused_numbers k) (cut ∷ []) later) st.cuts;
-            counts = omega (arith, st.counts);
+            cuts = rw (append_assoc (unused_numbers k) (cut ∷ []) later) st.cuts;
+            counts = omega (arith, st.counts, length-append (unused_numbers k) (cut ∷ []));
             on = st.on;
             rebuilt = st.rebuilt;
             proper = rw unused_is (place_proper inst a r h before piece (map (cut_in inst) later) st.proper);
@@ -169,7 +166,7 @@ module _ (inst : ProblemInstance) (a : Admitted inst) (r : Ranged inst) (k : Wor
 
     words_more : placed_words (with_insertion k word) ≡ more
     unfolding with_insertion
-    words_more = take_push k.placed k.insertions word placed_room
+    words_more = refl
 
     cuts_more : map cut_of more ≡ map cut_of words ++ (cut ∷ [])
     cuts_more = map_append cut_of words (word ∷ []) ∙ ap (λ (c : ℕ). map cut_of words ++ (c ∷ [])) (cut_back board cut h small_cut)
@@ -247,10 +244,10 @@ module _ (inst : ProblemInstance) (a : Admitted inst) (r : Ranged inst) (k : Wor
               room = st.room;
               sheets = st.sheets;
               boards = st.boards;
-              cuts = rw (words_more, cuts_more) (also (joins (map cut_of words) (unused_numbers k) cut later) st.cuts);
-              counts = omega (arith, st.counts);
-              on = rw words_more (all_append (λ w. Memᴰ (board_of w) (sheet_boards k)) words (word ∷ []) st.on (on_it, tt));
-              rebuilt = rw words_more (all_map (RebuiltOn inst words) (RebuiltOn inst more) rebuilt_step (sheet_boards k) st.rebuilt);
+              cuts = rw cuts_more (also (joins (map cut_of words) (unused_numbers k) cut later) st.cuts);
+              counts = omega (arith, st.counts, length-append words (word ∷ []));
+              on = (all_append (λ w. Memᴰ (board_of w) (sheet_boards k)) words (word ∷ []) st.on (on_it, tt));
+              rebuilt = (all_map (RebuiltOn inst words) (RebuiltOn inst more) rebuilt_step (sheet_boards k) st.rebuilt);
               proper = rw sheet_is (place_proper inst a r h before piece (map (cut_in inst) later) st.proper);
             };
           }
@@ -376,8 +373,8 @@ module _ (inst : ProblemInstance) (a : Admitted inst) (r : Ranged inst) (k : Wor
               room = length_moved board k.boards j k.sheets (omega (arith, known, few_boards_lem inst (cut ∷ later) k st r)) ∙ st.room;
               sheets = omega (arith, known);
               boards = boards_after;
-              cuts = rw (words_after_lem, cuts_more) (also (joins (map cut_of words) (unused_numbers k) cut later) st.cuts);
-              counts = omega (arith, st.counts);
+              cuts = rw cuts_more (also (joins (map cut_of words) (unused_numbers k) cut later) st.cuts);
+              counts = omega (arith, st.counts, length-append words (word ∷ []));
               on = on_after;
               rebuilt = rebuilt_after;
               proper = rw new_is (place_proper inst a r h before piece (map (cut_in inst) later) st.proper);

@@ -2,19 +2,16 @@
 use native.Mathlib.Omega.{arith}
 use mathlib.Core.Path.{◌≡◌, refl, subst}
 use mathlib.Core.List.{List, [], ◌++◌, map, append-nil}
-use lib.ListN.{length}
-use lib.Seq.{length-take-le}
 use Rattle.lists.proofs.Perm.{Perm}
 use Rattle.model.specs.declared.BaselineGuillotineHeuristic.{BaselineGuillotineHeuristic}
 use Rattle.model.specs.declared.CutInstance.{CutInstance}
 use Rattle.model.specs.Candidate.{place_cuts, reinsert_unused_first_fit}
 use Rattle.model.specs.Expand.{ProblemInstance}
-use Rattle.trust.proofs.Ranges.{Ranged}
 use Rattle.trust.proofs.Candidate.{placed_cuts}
 use Rattle.candidate.specs.declared.Candidate.{Candidate as Words}
 use Rattle.candidate.specs.Moves.{without_unused}
-use Rattle.candidate.specs.Stands.{Stands, cut_in, unused_numbers, candidate_in}
-use Rattle.candidate.proofs.Standing.{few_placed}
+use Rattle.candidate.specs.Stands.{Stands, unused_numbers, candidate_in}
+use Rattle.problem.specs.Problem.{cut_in}
 
 -- reinsert_unused_first_fit places them on the candidate without them
 pub reinsert_is : (inst : ProblemInstance) (h : BaselineGuillotineHeuristic) (k : Words)
@@ -22,10 +19,9 @@ pub reinsert_is : (inst : ProblemInstance) (h : BaselineGuillotineHeuristic) (k 
 unfolding candidate_in without_unused reinsert_unused_first_fit
 reinsert_is inst h k = refl
 
-pub reinsert_stands : (inst : ProblemInstance) → Ranged inst → (k : Words) → length k.unused ≡ 64 → Stands inst [] k → Stands inst (unused_numbers k) (without_unused k)
+pub reinsert_stands : (inst : ProblemInstance) (k : Words) → Stands inst [] k → Stands inst (unused_numbers k) (without_unused k)
 unfolding candidate_in without_unused
-reinsert_stands inst r k spare st =
-    let count : length (unused_numbers k) ≡ k.unused_count = length-take-le k.unused_count k.unused (omega (arith, spare, few_placed inst [] k st r)) in
+reinsert_stands inst k st =
     let kept = st.proper.kept in
     record {
       room = st.room;

@@ -24,7 +24,8 @@ use Rattle.trust.proofs.Winner.{Admitted}
 use Rattle.trust.proofs.Ranges.{Ranged}
 use Rattle.candidate.specs.declared.Candidate.{Candidate as Words}
 use Rattle.candidate.specs.Entries.{board_of, on_board}
-use Rattle.candidate.specs.Stands.{Stands, board_in, cut_in, making_in, bin_in, sheet_boards, available_boards, placed_words, unused_numbers, candidate_in}
+use Rattle.candidate.specs.Stands.{Stands, making_in, bin_in, sheet_boards, available_boards, placed_words, unused_numbers, candidate_in}
+use Rattle.problem.specs.Problem.{board_in, cut_in}
 use Rattle.candidate.proofs.Lists.{Other, perm_once}
 use Rattle.candidate.proofs.Makings.{on_none, bare_rebuilt, bin_bare}
 
@@ -106,7 +107,7 @@ module _ (inst : ProblemInstance) (later : List ℕ) (k : Words) (st : Stands in
 
   -- ---- the counts
 
-  pub few_placed : k.placed + (k.unused_count + length later) ≤ 64
+  pub few_placed : length (placed_words k) + (length (unused_numbers k) + length later) ≤ 64
   few_placed = omega (arith, st.counts, r.few_panels)
 
 -- ---- the next cut

@@ -1,4 +1,4 @@
--- An insertion as a word: its board's and its cut's places in the tables, and a code of its heuristic.
+-- An insertion as a word: its board's and its cut's places in the problem, and a code of its heuristic.
 use Rattle.std.specs.Prelude.{ℕ, zero, suc, ◌+◌, ◌*◌, ◌/◌, ◌%◌, List, eqb}
 use Rattle.lists.specs.Base.{retain}
 use Rattle.model.specs.declared.GuillotineRectChoice.{GuillotineRectChoice}

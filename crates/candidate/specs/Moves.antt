@@ -1,5 +1,5 @@
 -- What a placement does to the words of a candidate.
-use Rattle.std.specs.Prelude.{ℕ, suc, ◌+◌, List, [], ◌∷◌, map, leb, length, get_or, set, take, replicate, if◌then◌else◌}
+use Rattle.std.specs.Prelude.{ℕ, suc, ◌+◌, List, [], ◌∷◌, ◌++◌, map, leb, length, get_or, take, if◌then◌else◌}
 use Rattle.lists.specs.Base.{is_some, range, remove_at}
 use Rattle.model.specs.declared.BaselineGuillotineHeuristic.{BaselineGuillotineHeuristic}
 use Rattle.model.specs.Sheet.{GuillotineSheet, Insertion, try_insert}
@@ -7,12 +7,12 @@ use Rattle.model.specs.Expand.{ProblemInstance}
 use Rattle.copying.specs.Inserted.{insert_at}
 use Rattle.candidate.specs.declared.Candidate.{Candidate as Words}
 use Rattle.candidate.specs.Entries.{insertion_word}
-use Rattle.candidate.specs.Stands.{cut_in, bin_in, placed_words}
+use Rattle.candidate.specs.Stands.{bin_in, placed_words}
+use Rattle.problem.specs.Problem.{cut_in}
 
 -- Candidate::new: every board available, nothing placed
 unfoldable pub new_words : Words
-new_words =
-    record { boards = range 64; sheets = 0; insertions = replicate 64 0; placed = 0; unused = replicate 64 0; unused_count = 0 }
+new_words = record { boards = range 64; sheets = 0; insertions = record { items = [] }; unused = record { items = [] } }
 
 -- the board at an index moved to an earlier one
 unfoldable pub moved_up : List ℕ → ℕ → ℕ → List ℕ
@@ -21,50 +21,21 @@ moved_up boards from to = insert_at (remove_at from boards) to (get_or boards fr
 -- one more insertion
 unfoldable pub with_insertion : Words → ℕ → Words
 with_insertion k word =
-    record {
-      boards = k.boards;
-      sheets = k.sheets;
-      insertions = set k.insertions k.placed word;
-      placed = k.placed + 1;
-      unused = k.unused;
-      unused_count = k.unused_count;
-    }
+    record { boards = k.boards; sheets = k.sheets; insertions = record { items = k.insertions.items ++ (word ∷ []) }; unused = k.unused }
 
 -- one more unused cut
 unfoldable pub with_unused : Words → ℕ → Words
 with_unused k cut =
-    record {
-      boards = k.boards;
-      sheets = k.sheets;
-      insertions = k.insertions;
-      placed = k.placed;
-      unused = set k.unused k.unused_count cut;
-      unused_count = k.unused_count + 1;
-    }
+    record { boards = k.boards; sheets = k.sheets; insertions = k.insertions; unused = record { items = k.unused.items ++ (cut ∷ []) } }
 
 -- no unused cut
 unfoldable pub without_unused : Words → Words
-without_unused k =
-    record {
-      boards = k.boards;
-      sheets = k.sheets;
-      insertions = k.insertions;
-      placed = k.placed;
-      unused = k.unused;
-      unused_count = 0;
-    }
+without_unused k = record { boards = k.boards; sheets = k.sheets; insertions = k.insertions; unused = record { items = [] } }
 
 -- the available board at an index becomes the last sheet's
 unfoldable pub with_sheet : Words → ℕ → Words
 with_sheet k j =
-    record {
-      boards = moved_up k.boards j k.sheets;
-      sheets = k.sheets + 1;
-      insertions = k.insertions;
-      placed = k.placed;
-      unused = k.unused;
-      unused_count = k.unused_count;
-    }
+    record { boards = moved_up k.boards j k.sheets; sheets = k.sheets + 1; insertions = k.insertions; unused = k.unused }
 
 -- ---- place_cut_first_fit
 

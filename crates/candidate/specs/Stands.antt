@@ -1,52 +1,17 @@
 -- What a candidate of words stands for: the definition's candidate, each sheet rebuilt from its board and its insertions.
-use Rattle.std.specs.Prelude.{ℕ, ◌+◌, ◌*◌, ◌≤◌, ◌≡◌, false, length, get_or, take, drop}
+use Rattle.std.specs.Prelude.{ℕ, ◌+◌, ◌≤◌, ◌≡◌, length, take, drop}
 use mathlib.Core.List.{List, ◌++◌, map, Memᴰ}
 use Rattle.std.proofs.Math.Option
 use Rattle.std.proofs.Math.Option.{some}
 use Rattle.lists.specs.Base.{range}
 use Rattle.lists.proofs.Perm.{Perm, All}
-use Rattle.model.specs.declared.PatternDirection.{PatternDirection}
-use Rattle.model.specs.declared.StockInstance.{StockInstance}
-use Rattle.model.specs.declared.CutInstance.{CutInstance}
 use Rattle.model.specs.Sheet.{GuillotineSheet, Insertion, new_sheet, rebuild}
 use Rattle.model.specs.Candidate.{Candidate}
 use Rattle.model.specs.Expand.{ProblemInstance}
-use Rattle.trust.proofs.Winner.{Admitted}
-use Rattle.trust.proofs.Ranges.{Ranged}
 use Rattle.trust.proofs.Proper.{UnderWay}
-use Rattle.rows.specs.Rows.{stock_words, cut_words, stock_at, cut_at}
-use Rattle.candidate.specs.declared.Instance.{Instance}
+use Rattle.problem.specs.Problem.{board_in, cut_in}
 use Rattle.candidate.specs.declared.Candidate.{Candidate as Words}
 use Rattle.candidate.specs.Entries.{board_of, cut_of, row_of, on_board}
-
--- ---- the instance
-
--- the instance that two tables show, with the numbers beside them
-unfoldable pub instance_in : List ℕ → List ℕ → Instance → ProblemInstance
-instance_in stock cuts n =
-    record { stock = map (stock_at stock) (range n.stock); cuts = map (cut_at cuts) (range n.cuts); kerf_width = n.kerf_width }
-
--- whole tables of an instance that no check refuses
-pub record Tables (stock cuts : List ℕ) (n : Instance) : Type 0 where
-  pub stock_room : stock_words * n.stock ≤ length stock
-  pub cut_room : cut_words * n.cuts ≤ length cuts
-  pub few_boards : n.stock ≤ 64
-  pub few_cuts : n.cuts ≤ 64
-  pub admitted : Admitted (instance_in stock cuts n)
-  pub ranged : Ranged (instance_in stock cuts n)
-
--- a board and a cut by their places in the tables
-abbrev pub no_stock : StockInstance
-no_stock = record { stock_id = 0; instance = 0; width = 0; length = 0; pattern = PatternDirection.None }
-
-abbrev pub no_cut : CutInstance
-no_cut = record { cut_id = 0; instance = 0; width = 0; length = 0; pattern = PatternDirection.None; can_rotate = false }
-
-unfoldable pub board_in : ProblemInstance → ℕ → StockInstance
-board_in inst b = get_or inst.stock b no_stock
-
-unfoldable pub cut_in : ProblemInstance → ℕ → CutInstance
-cut_in inst k = get_or inst.cuts k no_cut
 
 -- ---- sheets
 
@@ -70,10 +35,10 @@ abbrev pub available_boards : ProblemInstance → Words → List ℕ
 available_boards inst k = drop k.sheets (take (length inst.stock) k.boards)
 
 abbrev pub placed_words : Words → List ℕ
-placed_words k = take k.placed k.insertions
+placed_words k = k.insertions.items
 
 abbrev pub unused_numbers : Words → List ℕ
-unused_numbers k = take k.unused_count k.unused
+unused_numbers k = k.unused.items
 
 unfoldable pub candidate_in : ProblemInstance → Words → Candidate
 candidate_in inst k =
@@ -90,7 +55,7 @@ pub record Stands (inst : ProblemInstance) (later : List ℕ) (k : Words) : Type
   pub sheets : k.sheets ≤ length inst.stock
   pub boards : Perm (take (length inst.stock) k.boards) (range (length inst.stock))
   pub cuts : Perm (map cut_of (placed_words k) ++ (unused_numbers k ++ later)) (range (length inst.cuts))
-  pub counts : k.placed + (k.unused_count + length later) ≡ length inst.cuts
+  pub counts : length (placed_words k) + (length (unused_numbers k) + length later) ≡ length inst.cuts
   pub on : All (λ w. Memᴰ (board_of w) (sheet_boards k)) (placed_words k)
   pub rebuilt : All (λ b. rebuild inst.kerf_width (board_in inst b) (making_in inst (placed_words k) b) ≡ some (bin_in inst (placed_words k) b)) (sheet_boards k)
   pub proper : UnderWay inst (map (cut_in inst) later) (candidate_in inst k)

@@ -1,38 +1,33 @@
 // A candidate and what is done to one: `Candidate`, `StockInventory` and `CutCatalog` of the optimizer. Boards and cuts are known by
-// their places in the instance's tables, and a sheet by its board and its insertions; its free rectangles are lent words.
+// their places in the instance, and a sheet by its board and its insertions; its free rectangles stand with its board's number.
 #![tactic(auto)]
 
-ghost use Rattle.std.specs.Prelude.{◌≡◌, ◌+◌, ◌≤◌, ◌<◌, get_or};
+ghost use Rattle.std.specs.Prelude.{◌≡◌, ◌+◌, ◌≤◌, ◌<◌, get_or, length};
 ghost use Rattle.candidate.specs.Entries.{heuristic_code, choice_of, split_of, rotation_of, heuristic_of, insertion_word, board_of, cut_of, row_of};
 ghost use Rattle.candidate.specs.Moves.{new_words, moved_up, with_insertion, with_unused, take_place};
+ghost use Rattle.candidate.specs.Stands.{placed_words, unused_numbers};
 
+use arrayvec::ArrayVec;
 use model::{
     BaselineGuillotineHeuristic, GuillotineRectChoice, GuillotineSplitHeuristic, RotationPreference,
 };
 
-// An instance beside its two tables: the kerf, and how many rows each table has.
-#[derive(Clone, Copy)]
-pub struct Instance {
-    pub kerf_width: u32,
-    pub stock: usize,
-    pub cuts: usize,
-}
-
-#[derive(Clone, Copy)]
+// All 64 are numbers of boards, of which the problem's come first: `sheets` divides those of the sheets from the available ones. That a candidate stands is a fact of it and
+// its problem together, so it is a clause of what needs it.
+#[derive(Drop)]
 pub struct Candidate {
     // the boards: those of the sheets, in sheet order, then the available ones
     pub boards: [u32; 64],
     pub sheets: usize,
     // the cuts placed, each with its board and heuristic, in the order they were placed
-    pub insertions: [u32; 64],
-    pub placed: usize,
-    pub unused: [u32; 64],
-    pub unused_count: usize,
+    pub insertions: ArrayVec<u32, 64>,
+    pub unused: ArrayVec<u32, 64>,
 }
 
 // ---- insertions as words
 
-// The workspace is lent words, so an insertion at rest is a word. These are functions and no `From`: the types are another crate's.
+// The workspace is lent words, so an insertion at rest is a word; it is one in a candidate too, so that loading and storing copy words and turn none.
+// These are functions and no `From`: a number is a board, a cut or a heuristic by its place in the word.
 
 fn heuristic_code(h: BaselineGuillotineHeuristic) -> u32
     ensures { result ≡ heuristic_code h }
@@ -79,6 +74,7 @@ fn heuristic_of(code: u32) -> BaselineGuillotineHeuristic
     }
 }
 
+// Places are below 64 by a clause: a type of places would be unwrapped in each word.
 fn insertion_word(board: u32, cut: u32, h: BaselineGuillotineHeuristic) -> u32
     requires { (board < 64) × (cut < 64) }
     ensures { result ≡ insertion_word board cut h }
@@ -106,78 +102,58 @@ pub fn row_of(word: u32) -> BaselineGuillotineHeuristic
 
 // ---- boards and insertions
 
-// Candidate::new: every board available, nothing placed.
-pub fn new_candidate() -> Candidate
-    ensures { result ≡ new_words }
-{
-    Candidate {
-        boards: std::array::from_fn(|i| i as u32),
-        sheets: 0,
-        insertions: [0u32; 64],
-        placed: 0,
-        unused: [0u32; 64],
-        unused_count: 0,
-    }
-}
-
 // The board at an index moves to an earlier one, and those between move up.
-pub fn move_board(boards: [u32; 64], from: usize, to: usize) -> [u32; 64]
+pub fn move_board(boards: &mut [u32; 64], from: usize, to: usize)
     requires { (to ≤ from) × (from < 64) }
-    ensures { result ≡ moved_up boards from to }
+    ensures { boards.new ≡ moved_up boards.old from to }
 {
-    let mut after = boards;
-    copying::insert_word(&mut after, from, to, boards[from]);
-    after
+    let board = boards[from];
+    copying::insert_word(boards, from, to, board);
 }
 
-pub fn push_insertion(
-    c: Candidate,
-    board: u32,
-    cut: u32,
-    h: BaselineGuillotineHeuristic,
-) -> Candidate
-    requires { (board < 64) × (cut < 64) × (c.placed < 64) }
-    ensures { result ≡ with_insertion c (insertion_word board cut h) }
-{
-    let mut after = c;
-    after.insertions[c.placed] = insertion_word(board, cut, h);
-    after.placed += 1;
-    after
-}
-
-pub fn push_unused(c: Candidate, cut: u32) -> Candidate
-    requires { c.unused_count < 64 }
-    ensures { result ≡ with_unused c cut }
-{
-    let mut after = c;
-    after.unused[c.unused_count] = cut;
-    after.unused_count += 1;
-    after
-}
-
-// ---- placing a cut
-
-// The three ends of place_cut_first_fit: on a sheet, on a new board, unused.
-pub fn take_place(
-    c: Candidate,
-    inst: Instance,
-    j: usize,
-    cut: u32,
-    h: BaselineGuillotineHeuristic,
-) -> Candidate
-    requires { (inst.stock ≤ 64) × (j < inst.stock → get_or c.boards j 0 < 64) × (cut < 64) × (c.placed < 64) × (c.unused_count < 64) }
-    ensures { result ≡ take_place inst.stock c j cut h }
-{
-    if inst.stock <= j {
-        return push_unused(c, cut);
+impl Candidate {
+    // Candidate::new: every board available, nothing placed.
+    pub fn new() -> Self
+        ensures { result ≡ new_words }
+    {
+        Candidate {
+            boards: std::array::from_fn(|i| i as u32),
+            sheets: 0,
+            insertions: ArrayVec::new(),
+            unused: ArrayVec::new(),
+        }
     }
-    let sheets = c.sheets;
-    let board = c.boards[j];
-    let mut after = push_insertion(c, board, cut, h);
-    if j < sheets {
-        return after;
+
+    #[tactic(auto, unfolding(crate::specs::Moves::with_insertion))]
+    pub fn push_insertion(&mut self, board: u32, cut: u32, h: BaselineGuillotineHeuristic)
+        requires { (board < 64) × (cut < 64) × (length (placed_words self.old) < 64) }
+        ensures { self.new ≡ with_insertion self.old (insertion_word board cut h) }
+    {
+        self.insertions.push(insertion_word(board, cut, h));
     }
-    after.boards = move_board(c.boards, j, sheets);
-    after.sheets = sheets + 1;
-    after
+
+    #[tactic(auto, unfolding(crate::specs::Moves::with_unused))]
+    pub fn push_unused(&mut self, cut: u32)
+        requires { length (unused_numbers self.old) < 64 }
+        ensures { self.new ≡ with_unused self.old cut }
+    {
+        self.unused.push(cut);
+    }
+
+    // The three ends of place_cut_first_fit, by the index of the board: on a sheet, on a new board, past the `stock` boards unused.
+    pub fn take_place(&mut self, stock: usize, j: usize, cut: u32, h: BaselineGuillotineHeuristic)
+        requires { (stock ≤ 64) × (j < stock → get_or self.old.boards j 0 < 64) × (cut < 64)
+            × (length (placed_words self.old) < 64) × (length (unused_numbers self.old) < 64) }
+        ensures { self.new ≡ take_place stock self.old j cut h }
+    {
+        if stock <= j {
+            self.push_unused(cut);
+            return;
+        }
+        self.push_insertion(self.boards[j], cut, h);
+        if self.sheets <= j {
+            move_board(&mut self.boards, j, self.sheets);
+            self.sheets += 1;
+        }
+    }
 }

@@ -6,7 +6,7 @@ use native.Mathlib.Omega.{arith}
 use mathlib.Core.Path.{◌≡◌, refl, sym, ap, ◌∙◌}
 use mathlib.Core.List.{List, [], ◌∷◌, map}
 use mathlib.Core.Option.{some}
-use lib.ListN.{length, take}
+use lib.ListN.{length}
 use lib.Ieee.{Float}
 use Rattle.lists.specs.Base.{sum}
 use Rattle.lists.specs.Language.{option_of}
@@ -22,9 +22,9 @@ use Rattle.fitness.specs.declared.SheetAreas.{SheetAreas}
 use Rattle.fitness.specs.Areas.{areas_of, board_areas, fitness_of}
 use Rattle.scores.specs.Scores.{score_of}
 use Rattle.fitness.proofs.Sheets.{used_stock_area_areas, fitness_areas}
-use Rattle.candidate.specs.declared.Instance.{Instance}
+use Rattle.problem.specs.Problem.{Sound}
 use Rattle.candidate.specs.declared.Candidate.{Candidate as Words}
-use Rattle.candidate.specs.Stands.{instance_in, Tables, bin_in, placed_words, sheet_boards, candidate_in, Stands}
+use Rattle.candidate.specs.Stands.{bin_in, placed_words, sheet_boards, candidate_in, Stands}
 use Rattle.candidate.proofs.Standing.{length_sheets}
 use Rattle.evaluation.specs.OnSheets.{AreasOf, score_in}
 
@@ -40,21 +40,15 @@ sum_by_board l = sum_by_sum (λ s. s.board) l
 sum_by_placed : (l : List SheetAreas) → sum_by (λ s. s.placed) l ≡ sum (map (λ s. s.placed) l)
 sum_by_placed l = sum_by_sum (λ s. s.placed) l
 
-module _ (stock cuts : List ℕ) (n : Instance) (c : Words) (t : Tables stock cuts n) (s : Stands (instance_in stock cuts n) [] c) where
-  abbrev inst : ProblemInstance
-  inst = instance_in stock cuts n
-
+module _ (inst : ProblemInstance) (c : Words) (sound : Sound inst) (s : Stands inst [] c) where
   abbrev bins : List GuillotineSheet
   bins = (candidate_in inst c).bins
 
   pub bin_count : length bins ≡ c.sheets
   unfolding candidate_in
-  bin_count = length-map (bin_in inst (placed_words c)) (sheet_boards c) ∙ length_sheets inst [] c s t.ranged
+  bin_count = length-map (bin_in inst (placed_words c)) (sheet_boards c) ∙ length_sheets inst [] c s sound.ranged
 
-  pub first_areas : (areas : List SheetAreas) → AreasOf areas bins → take c.sheets areas ≡ map areas_of bins
-  first_areas areas of = ap (λ (m : ℕ). take m areas) (sym bin_count) ∙ of
-
-  module _ (sheets : List SheetAreas) (of : sheets ≡ map areas_of bins) where
+  module _ (sheets : List SheetAreas) (of : AreasOf sheets bins) where
     used : sum_by (λ s. s.board) sheets ≡ used_stock_area bins
     used = sum_by_board sheets ∙ ap board_areas of ∙ sym (used_stock_area_areas bins)
 
@@ -63,7 +57,7 @@ module _ (stock cuts : List ℕ) (n : Instance) (c : Words) (t : Tables stock cu
     cut = sum_by_placed sheets ∙ ap (λ (l : List SheetAreas). sum (map (λ s. s.placed) l)) of ∙ ap sum (map-map (λ s. s.placed) areas_of bins)
 
     pub used_most : sum_by (λ s. s.board) sheets ≤ most_areas
-    used_most = omega (arith, used, (candidate_counts inst t.ranged [] (candidate_in inst c) s.proper).area)
+    used_most = omega (arith, used, (candidate_counts inst sound.ranged [] (candidate_in inst c) s.proper).area)
 
     pub boards_most : board_areas sheets ≤ most_areas
     boards_most = omega (arith, used_most, sum_by_board sheets)
@@ -78,4 +72,4 @@ module _ (stock cuts : List ℕ) (n : Instance) (c : Words) (t : Tables stock cu
     score_words waste f e g =
         let w : used_stock_area bins - placed_areas bins ≡ waste = omega (arith, used, cut, e) in
         let same : fitness bins ≡ option_of f = fitness_areas bins ∙ ap fitness_of (sym of) ∙ sym g in
-        score_is inst (candidate_in inst c) t.admitted s.proper ∙ (λ i. some (record { used_stock_count = bin_count i; waste_area = w i; fitness = same i }))
+        score_is inst (candidate_in inst c) sound.admitted s.proper ∙ (λ i. some (record { used_stock_count = bin_count i; waste_area = w i; fitness = same i }))

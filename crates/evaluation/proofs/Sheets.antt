@@ -1,19 +1,16 @@
--- The sheets of a candidate of words: their numbers are in the tables, their pieces are their boards' insertions, and their areas come from those.
+-- The sheets of a candidate of words: their numbers are the instance's, their pieces are their boards' insertions, and their areas come from those.
 use Prim.Native.Nat.{ℕ, ◌+◌, ◌≤◌, ◌<◌}
 use native.Mathlib.Omega.{arith}
 use mathlib.Core.Path.{◌≡◌, sym, ap, ◌∙◌, subst}
-use mathlib.Core.Bool.{Bool}
 use mathlib.Core.List.{List, [], ◌∷◌, ◌++◌, map, Memᴰ}
 use mathlib.Core.Option.{some}
-use lib.Dec.{T, eqb}
-use lib.ListN.{length, get_or, set, take, length-take}
+use lib.ListN.{length, get_or, take, length-take}
 use lib.Seq.{get_or-take}
-use Rattle.lists.specs.Base.{sum, range, retain}
+use Rattle.lists.specs.Base.{sum, range}
 use Rattle.lists.proofs.Perm.{perm_sym, All, all_map, all_both, all_left, all_perm, sum_perm, in_all}
 use Rattle.lists.proofs.Sums.{length-map, map_append, sum_append}
-use Rattle.lists.proofs.Arrays.{take_next, take_push}
-use Rattle.lists.proofs.Kept.{retain_sub}
-use Rattle.lists.proofs.Counts.{range_below, get_or_range, length_count_map}
+use Rattle.lists.proofs.Arrays.{take_next}
+use Rattle.lists.proofs.Counts.{range_below, get_or_range, map_get}
 use Rattle.lists.proofs.Every.{all_get, get_mem, all_of_map}
 use Rattle.lists.proofs.Maps.{map_same, map-map, get_d_map}
 use Rattle.model.specs.declared.StockInstance.{StockInstance}
@@ -26,45 +23,22 @@ use Rattle.trust.proofs.Candidate.{cuts_of}
 use Rattle.trust.proofs.Sheet.{all_inserted}
 use Rattle.trust.proofs.Proper.{SheetProper}
 use Rattle.trust.proofs.Scores.{sheet_area}
+use Rattle.trust.proofs.Ranges.{Ranged}
 use Rattle.trust.proofs.CandidateSize.{cut_area_most}
-use Rattle.rows.specs.Rows.{stock_at, cut_at}
-use Rattle.candidate.specs.declared.Instance.{Instance}
 use Rattle.candidate.specs.declared.Candidate.{Candidate as Words}
 use Rattle.candidate.specs.Entries.{board_of, cut_of, on_board}
-use Rattle.candidate.specs.Stands.{instance_in, Tables, board_in, cut_in, no_stock, no_cut, insertion_in, making_in, bin_in, sheet_boards, available_boards, placed_words, unused_numbers, candidate_in, Stands}
+use Rattle.candidate.specs.Stands.{insertion_in, making_in, bin_in, sheet_boards, available_boards, placed_words, unused_numbers, candidate_in, Stands}
+use Rattle.problem.specs.Problem.{board_in, cut_in, no_cut}
 use Rattle.candidate.proofs.Standing.{length_sheets, boards_split, boards_below}
 use Rattle.fitness.specs.declared.SheetAreas.{SheetAreas}
 use Rattle.fitness.specs.Areas.{areas_of}
-use Rattle.evaluation.specs.OnSheets.{word_area, placed_on, InTables, AreasOf, no_bin}
+use Rattle.evaluation.specs.OnSheets.{word_area, placed_on, Known, AreasOf, no_bin}
 
--- ---- a loop that stores a function of another list's elements
+-- ---- a loop that pushes a function of another list's elements
 
-pub map_turn : {A B : Type 0} (f : A → B) (l : List A) (m : List B) (k : ℕ) (d : A) (b : B) → k < length l → k < length m → take k m ≡ map f (take k l) → b ≡ f (get_or l k d)
-    → take (k + 1) (set m k b) ≡ map f (take (k + 1) l)
-map_turn f l m k d b h j e v =
-    take_push k m b j ∙ (λ i. e i ++ (v i ∷ [])) ∙ sym (ap (map f) (take_next l k d h) ∙ map_append f (take k l) (get_or l k d ∷ []))
-
--- ---- the instance that two tables show
-
-module _ (stock cuts : List ℕ) (n : Instance) where
-  abbrev inst : ProblemInstance
-  inst = instance_in stock cuts n
-
-  pub stock_count : length inst.stock ≡ n.stock
-  unfolding instance_in
-  stock_count = length_count_map (stock_at stock) 0 n.stock
-
-  pub cut_count : length inst.cuts ≡ n.cuts
-  unfolding instance_in
-  cut_count = length_count_map (cut_at cuts) 0 n.cuts
-
-  pub board_known : (b : ℕ) → b < n.stock → board_in inst b ≡ stock_at stock b
-  unfolding instance_in board_in
-  board_known b h = get_or_range (stock_at stock) no_stock n.stock b h
-
-  pub cut_known : (k : ℕ) → k < n.cuts → cut_in inst k ≡ cut_at cuts k
-  unfolding instance_in cut_in
-  cut_known k h = get_or_range (cut_at cuts) no_cut n.cuts k h
+pub map_turn : {A B : Type 0} (f : A → B) (l : List A) (m : List B) (k : ℕ) (d : A) (b : B) → k < length l → m ≡ map f (take k l) → b ≡ f (get_or l k d)
+    → m ++ (b ∷ []) ≡ map f (take (k + 1) l)
+map_turn f l m k d b h e v = (λ i. e i ++ (v i ∷ [])) ∙ sym (ap (map f) (take_next l k d h) ∙ map_append f (take k l) (get_or l k d ∷ []))
 
 -- ---- a sheet that is rebuilt
 
@@ -131,46 +105,38 @@ bin_at inst later c s k h =
 
 -- ---- numbers and areas
 
-module _ (stock cuts : List ℕ) (n : Instance) (later : List ℕ) (c : Words) (t : Tables stock cuts n) (s : Stands (instance_in stock cuts n) later c) where
-  abbrev shown : ProblemInstance
-  shown = instance_in stock cuts n
-
-  pub few_sheets : c.sheets ≤ n.stock
-  few_sheets = omega (arith, s.sheets, stock_count stock cuts n)
-
-  pub few_insertions : c.placed ≤ n.cuts
-  few_insertions = omega (arith, s.counts, cut_count stock cuts n)
-
-  -- a sheet's board is in the table
-  pub sheets_known : All (λ b. b < n.stock) (sheet_boards c)
+module _ (inst : ProblemInstance) (later : List ℕ) (c : Words) (r : Ranged inst) (s : Stands inst later c) where
+  -- a sheet's board is one of the instance's
+  pub sheets_known : All (λ b. b < length inst.stock) (sheet_boards c)
   sheets_known =
-      all_map (λ b. b < length shown.stock) (λ b. b < n.stock) (λ b h. omega (arith, stock_count stock cuts n)) (sheet_boards c)
-      (all_left (λ b. b < length shown.stock) (sheet_boards c) (available_boards shown c)
-      (rw (boards_split shown later c s t.ranged) (boards_below shown later c s t.ranged)))
+      all_left (λ b. b < length inst.stock) (sheet_boards c) (available_boards inst c)
+      (rw (boards_split inst later c s r) (boards_below inst later c s r))
 
-  pub sheet_known : (k : ℕ) → k < c.sheets → get_or c.boards k 0 < n.stock
+  pub sheet_known : (k : ℕ) → k < c.sheets → get_or c.boards k 0 < length inst.stock
   sheet_known k h =
-      let long : k < length (sheet_boards c) = omega (arith, length_sheets shown later c s t.ranged) in
-      omega (arith, get_or-take c.sheets c.boards k 0 h, all_get (λ b. b < n.stock) (sheet_boards c) k 0 sheets_known long)
+      let long : k < length (sheet_boards c) = omega (arith, length_sheets inst later c s r) in
+      omega (arith, get_or-take c.sheets c.boards k 0 h, all_get (λ b. b < length inst.stock) (sheet_boards c) k 0 sheets_known long)
 
   -- so is an insertion's cut
-  pub cuts_known : All (λ w. cut_of w < n.cuts) (placed_words c)
+  pub cuts_known : All (λ w. cut_of w < length inst.cuts) (placed_words c)
   cuts_known =
-      all_of_map (λ k. k < n.cuts) cut_of (placed_words c)
-      (all_map (λ k. k < length shown.cuts) (λ k. k < n.cuts) (λ k h. omega (arith, cut_count stock cuts n)) (map cut_of (placed_words c))
-      (all_left (λ k. k < length shown.cuts) (map cut_of (placed_words c)) (unused_numbers c ++ later)
-      (all_perm (λ k. k < length shown.cuts) (perm_sym s.cuts) (range_below (length shown.cuts)))))
+      all_of_map (λ k. k < length inst.cuts) cut_of (placed_words c)
+      (all_left (λ k. k < length inst.cuts) (map cut_of (placed_words c)) (unused_numbers c ++ later)
+      (all_perm (λ k. k < length inst.cuts) (perm_sym s.cuts) (range_below (length inst.cuts))))
 
-  pub words_known : All (InTables cuts) (placed_words c)
+  pub words_known : All (Known inst) (placed_words c)
   words_known =
-      all_both (λ w. Memᴰ (board_of w) (sheet_boards c)) (λ w. cut_of w < n.cuts) (InTables cuts)
-      (λ w m k. (omega (arith, in_all (λ b. b < n.stock) (sheet_boards c) sheets_known m, t.few_boards), omega (arith, t.cut_room))) (placed_words c) s.on cuts_known
+      all_both (λ w. Memᴰ (board_of w) (sheet_boards c)) (λ w. cut_of w < length inst.cuts) (Known inst)
+      (λ w m k. (omega (arith, in_all (λ b. b < length inst.stock) (sheet_boards c) sheets_known m, r.few_boards), k)) (placed_words c) s.on cuts_known
 
   abbrev cut_area_at : ℕ → ℕ
-  cut_area_at k = cut_area (cut_at cuts k)
+  cut_area_at k = cut_area (cut_in inst k)
 
-  pub words_area : sum (map (word_area cuts) (placed_words c)) ≤ most_areas
-  unfolding instance_in
+  all_cuts : map (cut_in inst) (range (length inst.cuts)) ≡ inst.cuts
+  unfolding cut_in
+  all_cuts = map_get no_cut inst.cuts
+
+  pub words_area : sum (map (word_area inst) (placed_words c)) ≤ most_areas
   words_area =
       let placed : List ℕ = map cut_of (placed_words c) in
       let rest : List ℕ = unused_numbers c ++ later in
@@ -178,56 +144,48 @@ module _ (stock cuts : List ℕ) (n : Instance) (later : List ℕ) (c : Words) (
         arith,
         ap sum (map-map cut_area_at cut_of (placed_words c)),
         sum_append cut_area_at placed rest,
-        sum_perm cut_area_at s.cuts ∙ ap (λ (m : ℕ). sum (map cut_area_at (range m))) (cut_count stock cuts n),
-        ap sum (map-map cut_area (cut_at cuts) (range n.cuts)),
-        cut_area_most shown t.ranged,
+        sum_perm cut_area_at s.cuts,
+        ap sum (map-map cut_area (cut_in inst) (range (length inst.cuts))),
+        ap (λ (l : List CutInstance). sum (map cut_area l)) all_cuts,
+        cut_area_most inst r,
       )
 
-  cuts_area : (b : ℕ) → sum (map cut_area (map (cut_in shown) (map cut_of (on_board b (placed_words c))))) ≡ placed_on cuts (placed_words c) b
+  cuts_area : (b : ℕ) → sum (map cut_area (map (cut_in inst) (map cut_of (on_board b (placed_words c))))) ≡ placed_on inst (placed_words c) b
   unfolding placed_on on_board
   cuts_area b =
-      let p : ℕ → Bool = λ w. eqb (board_of w) b in
-      let on : List ℕ = retain p (placed_words c) in
-      let area : CutInstance → ℕ = cut_area in
-      ap (λ (l : List ℕ). sum l)
-      (map-map area (cut_in shown) (map cut_of on)
-      ∙ map-map (λ k. area (cut_in shown k)) cut_of on
-      ∙ map_same (word_area cuts) (λ w. area (cut_in shown (cut_of w))) on
-      (all_map (λ w. (cut_of w < n.cuts) × T (p w)) (λ w. area (cut_in shown (cut_of w)) ≡ word_area cuts w) (λ w h. ap area (cut_known stock cuts n (cut_of w) h.0)) on
-      (retain_sub (λ w. cut_of w < n.cuts) p (placed_words c) cuts_known)))
+      let on : List ℕ = on_board b (placed_words c) in
+      ap (λ (l : List ℕ). sum l) (map-map cut_area (cut_in inst) (map cut_of on) ∙ map-map cut_area_at cut_of on)
 
   -- the area on a sheet is that of its board's insertions
-  pub bin_placed : All (λ b. placed_area (bin_in shown (placed_words c) b) ≡ placed_on cuts (placed_words c) b) (sheet_boards c)
+  pub bin_placed : All (λ b. placed_area (bin_in inst (placed_words c) b) ≡ placed_on inst (placed_words c) b) (sheet_boards c)
   bin_placed =
-      all_both (λ b. cuts_of (bin_in shown (placed_words c) b) ≡ map (cut_in shown) (map cut_of (on_board b (placed_words c)))) (λ b. SheetProper shown.kerf_width (bin_in shown (placed_words c) b))
-      (λ b. placed_area (bin_in shown (placed_words c) b) ≡ placed_on cuts (placed_words c) b)
-      (λ b e p. sym (sheet_area shown.kerf_width (bin_in shown (placed_words c) b) p) ∙ ap (λ (l : List CutInstance). sum (map cut_area l)) e ∙ cuts_area b) (sheet_boards c)
-      (bin_cuts shown later c s) (bins_proper shown later c s)
+      all_both (λ b. cuts_of (bin_in inst (placed_words c) b) ≡ map (cut_in inst) (map cut_of (on_board b (placed_words c)))) (λ b. SheetProper inst.kerf_width (bin_in inst (placed_words c) b))
+      (λ b. placed_area (bin_in inst (placed_words c) b) ≡ placed_on inst (placed_words c) b)
+      (λ b e p. sym (sheet_area inst.kerf_width (bin_in inst (placed_words c) b) p) ∙ ap (λ (l : List CutInstance). sum (map cut_area l)) e ∙ cuts_area b) (sheet_boards c)
+      (bin_cuts inst later c s) (bins_proper inst later c s)
 
   -- ---- both areas of every sheet, as the loop over the sheets finds them
 
-  pub sheets_areas : (areas : List SheetAreas) (by_board : List ℕ) → by_board ≡ map (placed_on cuts (placed_words c)) (range 64)
-      → take c.sheets areas ≡ map (λ b. record { placed = get_or by_board b 0; board = stock_area (stock_at stock b) }) (sheet_boards c)
-      → AreasOf areas (candidate_in shown c).bins
+  pub sheets_areas : (areas : List SheetAreas) (by_board : List ℕ) → by_board ≡ map (placed_on inst (placed_words c)) (range 64)
+      → areas ≡ map (λ b. record { placed = get_or by_board b 0; board = stock_area (board_in inst b) }) (sheet_boards c)
+      → AreasOf areas (candidate_in inst c).bins
   unfolding candidate_in
   sheets_areas areas by_board e p =
-      let bin : ℕ → GuillotineSheet = bin_in shown (placed_words c) in
-      let bins : List GuillotineSheet = map bin (sheet_boards c) in
-      let size : length bins ≡ c.sheets = length-map bin (sheet_boards c) ∙ length_sheets shown later c s t.ranged in
-      let found : (b : ℕ) → b < n.stock → get_or by_board b 0 ≡ placed_on cuts (placed_words c) b =
-      λ b h. ap (λ (l : List ℕ). get_or l b 0) e ∙ get_or_range (placed_on cuts (placed_words c)) 0 64 b (omega (arith, t.few_boards))
+      let bin : ℕ → GuillotineSheet = bin_in inst (placed_words c) in
+      let found : (b : ℕ) → b < length inst.stock → get_or by_board b 0 ≡ placed_on inst (placed_words c) b =
+      λ b h. ap (λ (l : List ℕ). get_or l b 0) e ∙ get_or_range (placed_on inst (placed_words c)) 0 64 b (omega (arith, r.few_boards))
       in
-      let made : All (λ b. stock_area (stock_at stock b) ≡ stock_area (bin b).stock) (sheet_boards c) =
-      all_both (λ b. b < n.stock) (λ b. Made (board_in shown b) (making_in shown (placed_words c) b) (bin b)) (λ b. stock_area (stock_at stock b) ≡ stock_area (bin b).stock)
-      (λ b h m. ap stock_area (sym (m.stock ∙ board_known stock cuts n b h))) (sheet_boards c) sheets_known (bin_made shown later c s)
+      let made : All (λ b. stock_area (board_in inst b) ≡ stock_area (bin b).stock) (sheet_boards c) =
+      all_map (λ b. Made (board_in inst b) (making_in inst (placed_words c) b) (bin b)) (λ b. stock_area (board_in inst b) ≡ stock_area (bin b).stock)
+      (λ b m. ap stock_area (sym m.stock)) (sheet_boards c) (bin_made inst later c s)
       in
       let placed : All (λ b. get_or by_board b 0 ≡ placed_area (bin b)) (sheet_boards c) =
-      all_both (λ b. b < n.stock) (λ b. placed_area (bin b) ≡ placed_on cuts (placed_words c) b) (λ b. get_or by_board b 0 ≡ placed_area (bin b))
+      all_both (λ b. b < length inst.stock) (λ b. placed_area (bin b) ≡ placed_on inst (placed_words c) b) (λ b. get_or by_board b 0 ≡ placed_area (bin b))
       (λ b h m. found b h ∙ sym m) (sheet_boards c) sheets_known bin_placed
       in
-      ap (λ (m : ℕ). take m areas) size ∙ p
-      ∙ map_same (λ b. areas_of (bin b)) (λ b. record { placed = get_or by_board b 0; board = stock_area (stock_at stock b) }) (sheet_boards c)
-      (all_both (λ b. get_or by_board b 0 ≡ placed_area (bin b)) (λ b. stock_area (stock_at stock b) ≡ stock_area (bin b).stock)
-      (λ b. ◌≡◌ {A = SheetAreas} (record { placed = get_or by_board b 0; board = stock_area (stock_at stock b) }) (areas_of (bin b)))
+      p
+      ∙ map_same (λ b. areas_of (bin b)) (λ b. record { placed = get_or by_board b 0; board = stock_area (board_in inst b) }) (sheet_boards c)
+      (all_both (λ b. get_or by_board b 0 ≡ placed_area (bin b)) (λ b. stock_area (board_in inst b) ≡ stock_area (bin b).stock)
+      (λ b. ◌≡◌ {A = SheetAreas} (record { placed = get_or by_board b 0; board = stock_area (board_in inst b) }) (areas_of (bin b)))
       (λ b x y. λ i. record { placed = x i; board = y i }) (sheet_boards c) placed made)
       ∙ sym (map-map areas_of bin (sheet_boards c))

@@ -1,5 +1,5 @@
 -- The areas of a candidate's sheets, and the sheet that is first best by them.
-use Rattle.std.specs.Prelude.{ℕ, ◌+◌, ◌*◌, ◌≤◌, ◌<◌, ◌≡◌, Bool, List, map, length, get_or, take, Float}
+use Rattle.std.specs.Prelude.{ℕ, ◌<◌, ◌≡◌, Bool, List, map, length, get_or, Float}
 use Rattle.std.proofs.Math.Option.{Option, some}
 use Rattle.lists.specs.Base.{sum, is_less, is_greater, range, enumerate, first_best}
 use Rattle.model.specs.Types.{cut_area}
@@ -7,30 +7,30 @@ use Rattle.model.specs.Sheet.{GuillotineSheet, new_sheet}
 use Rattle.model.specs.Fitness.{sheet_fitness, compare_float}
 use Rattle.model.specs.Candidate.{CandidateScore, worst_bin, score}
 use Rattle.model.specs.Expand.{ProblemInstance}
-use Rattle.rows.specs.Rows.{cut_words, cut_at}
 use Rattle.fitness.specs.declared.SheetAreas.{SheetAreas}
 use Rattle.fitness.specs.Areas.{areas_of, no_sheet, share_of}
 use Rattle.candidate.specs.Entries.{board_of, cut_of, on_board}
 use Rattle.candidate.specs.declared.Candidate.{Candidate as Words}
-use Rattle.candidate.specs.Stands.{no_stock, candidate_in}
+use Rattle.candidate.specs.Stands.{candidate_in}
+use Rattle.problem.specs.Problem.{no_stock, cut_in}
 
 -- ---- areas
 
 -- the area of an insertion's cut
-abbrev pub word_area : List ℕ → ℕ → ℕ
-word_area cuts word = cut_area (cut_at cuts (cut_of word))
+abbrev pub word_area : ProblemInstance → ℕ → ℕ
+word_area inst word = cut_area (cut_in inst (cut_of word))
 
 -- the area that insertions place on a board
-unfoldable pub placed_on : List ℕ → List ℕ → ℕ → ℕ
-placed_on cuts words board = sum (map (word_area cuts) (on_board board words))
+unfoldable pub placed_on : ProblemInstance → List ℕ → ℕ → ℕ
+placed_on inst words board = sum (map (word_area inst) (on_board board words))
 
--- an insertion of a cut in the table, on one of 64 boards
-abbrev pub InTables : List ℕ → ℕ → Type 0
-InTables cuts word = (board_of word < 64) × (cut_words * cut_of word + cut_words ≤ length cuts)
+-- an insertion of a cut of the instance, on one of 64 boards
+abbrev pub Known : ProblemInstance → ℕ → Type 0
+Known inst word = (board_of word < 64) × (cut_of word < length inst.cuts)
 
--- the first ones are the areas of sheets, in their order
+-- the areas of sheets, in their order
 abbrev pub AreasOf : List SheetAreas → List GuillotineSheet → Type 0
-AreasOf areas bins = take (length bins) areas ≡ map areas_of bins
+AreasOf areas bins = areas ≡ map areas_of bins
 
 -- ---- the first best sheet
 

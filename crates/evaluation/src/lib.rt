@@ -1,7 +1,7 @@
 // What a candidate is worth: the areas and the fitness of its sheets, its validity and its score.
 #![tactic(auto)]
 
-ghost use Rattle.std.specs.Prelude.{◌≡◌, List, [], map, ◌≤◌, ◌<◌, ◌^◌, Bool, Float, length, take, sum_by};
+ghost use Rattle.std.specs.Prelude.{◌≡◌, List, [], map, ◌≤◌, ◌<◌, ◌^◌, Bool, Float, length, sum_by};
 ghost use Rattle.std.proofs.Math.Option.{some};
 ghost use Rattle.lists.specs.Base.{sum, range};
 ghost use Rattle.lists.proofs.Perm.{All};
@@ -12,52 +12,53 @@ ghost use Rattle.trust.proofs.Winner.{Admitted};
 ghost use Rattle.scores.specs.Scores.{score_of};
 ghost use Rattle.fitness.specs.Areas.{areas_of};
 ghost use Rattle.candidate.specs.Entries.{cut_of};
-ghost use Rattle.candidate.specs.Stands.{instance_in, Tables, candidate_in, Stands, placed_words};
-ghost use Rattle.evaluation.specs.OnSheets.{word_area, placed_on, InTables, AreasOf, IsFirstBest, IsWorst, IsBestDonor, score_in};
+ghost use Rattle.candidate.specs.Stands.{candidate_in, Stands, placed_words};
+ghost use Rattle.evaluation.specs.OnSheets.{word_area, placed_on, Known, AreasOf, IsFirstBest, IsWorst, IsBestDonor, score_in};
 ghost use Rattle.evaluation.specs.Keys.{repeats};
 
-use candidate::{Candidate, Instance};
+use arrayvec::ArrayVec;
+use candidate::Candidate;
 use fitness::SheetAreas;
+use problem::ProblemInstance;
 use scores::CandidateScore;
 
 // ---- areas and fitness of the sheets
 
 // The area placed on each board, by the board's number.
-fn placed_on_boards(cuts: &[u32], insertions: &[u32]) -> [u64; 64]
-    requires { All (InTables cuts.now) insertions.now × (sum (map (word_area cuts.now) insertions.now) < 2 ^ 64) }
-    ensures { result ≡ map (placed_on cuts.now insertions.now) (range 64) }
+fn placed_on_boards(inst: &ProblemInstance<'_>, insertions: &[u32]) -> [u64; 64]
+    requires { All (Known inst.now) insertions.now × (sum (map (word_area inst.now) insertions.now) < 2 ^ 64) }
+    ensures { result ≡ map (placed_on inst.now insertions.now) (range 64) }
 {
     let mut areas = [0u64; 64];
     for word in insertions {
         let board = candidate::board_of(*word) as usize;
-        let cut = rows::cut_at(cuts, candidate::cut_of(*word) as usize);
+        let cut = inst.cut(candidate::cut_of(*word) as usize);
         areas[board] += numbers::area(cut.width, cut.length);
     }
     areas
 }
 
-// The areas of each sheet; behind them zeros.
-pub fn sheet_areas(stock: &[u32], cuts: &[u32], inst: Instance, c: Candidate) -> [SheetAreas; 64]
-    requires { Tables stock.now cuts.now inst × Stands (instance_in stock.now cuts.now inst) [] c }
-    ensures { AreasOf result (candidate_in (instance_in stock.now cuts.now inst) c).bins }
+// The areas of each sheet.
+pub fn sheet_areas(inst: &ProblemInstance<'_>, c: &Candidate) -> ArrayVec<SheetAreas, 64>
+    requires { Stands inst.now [] c.now }
+    ensures { AreasOf result.items (candidate_in inst.now c.now).bins }
 {
-    let placed = placed_on_boards(cuts, &c.insertions[..c.placed]);
-    let mut areas = [SheetAreas {
-        placed: 0,
-        board: 0,
-    }; 64];
+    let stock = inst.stock();
+    let placed = placed_on_boards(inst, c.insertions.as_slice());
+    let mut areas = ArrayVec::new();
     for k in 0..c.sheets {
         let board = c.boards[k] as usize;
-        let s = rows::stock_at(stock, board);
-        areas[k] = SheetAreas {
+        let s = stock[board];
+        areas.push(SheetAreas {
             placed: placed[board],
             board: numbers::area(s.width, s.length),
-        };
+        });
     }
     areas
 }
 
-// The first sheet whose fitness is better than that of any other.
+// The first sheet whose fitness is better than that of any other. That there is a sheet is a clause: so no search
+// among sheets can fail.
 fn first_best<F: Fn(f64, f64) -> bool>(sheets: &[SheetAreas], better: F) -> usize
     ghost order: { Float → Float → Bool }
     requires some { 0 < length sheets.now }
@@ -82,7 +83,7 @@ pub fn worst_bin_index(sheets: &[SheetAreas]) -> usize
     requires { 0 < length sheets.now }
     ensures { (bins : List GuillotineSheet) → sheets.now ≡ map areas_of bins → IsWorst bins result }
 {
-    first_best(sheets, |f, best| scores::is_less_fit(f, best))
+    first_best(sheets, scores::is_less_fit)
 }
 
 // The first fittest sheet.
@@ -90,7 +91,7 @@ pub fn best_donor_bin_index(sheets: &[SheetAreas]) -> usize
     requires { 0 < length sheets.now }
     ensures { (bins : List GuillotineSheet) → sheets.now ≡ map areas_of bins → IsBestDonor bins result }
 {
-    first_best(sheets, |f, best| scores::is_fitter(f, best))
+    first_best(sheets, scores::is_fitter)
 }
 
 // ---- validity and score
@@ -107,23 +108,21 @@ fn has_duplicate_placed_cut_keys(keys: &[u32]) -> bool
     false
 }
 
-// The cuts placed, in the order they were placed, and others behind them.
-pub fn placed_cuts(c: Candidate) -> [u32; 64]
-    requires { c.placed ≤ 64 }
-    ensures { take c.placed result ≡ map cut_of (placed_words c) }
+// The cuts placed, in the order they were placed.
+pub fn placed_cuts(c: &Candidate) -> ArrayVec<u32, 64>
+    ensures { result.items ≡ map cut_of (placed_words c.now) }
 {
-    c.insertions.map(candidate::cut_of)
+    let mut cuts = ArrayVec::new();
+    for word in c.insertions.as_slice() {
+        cuts.push(candidate::cut_of(*word));
+    }
+    cuts
 }
 
-pub fn is_valid(c: Candidate) -> bool
-    requires { c.placed ≤ 64 }
-    ensures { (inst : ProblemInstance) → Admitted inst → Stands inst [] c → result ≡ is_valid inst.cuts (candidate_in inst c) }
+pub fn is_valid(c: &Candidate) -> bool
+    ensures { (inst : ProblemInstance) → Admitted inst → Stands inst [] c.now → result ≡ is_valid inst.cuts (candidate_in inst c.now) }
 {
-    if c.unused_count != 0 {
-        return false;
-    }
-    let keys = placed_cuts(c);
-    !has_duplicate_placed_cut_keys(&keys[..c.placed])
+    c.unused.is_empty() && !has_duplicate_placed_cut_keys(placed_cuts(c).as_slice())
 }
 
 fn used_stock_area(sheets: &[SheetAreas]) -> u64
@@ -140,17 +139,19 @@ fn placed_cut_area(sheets: &[SheetAreas]) -> u64
     sheets.iter().map(|s| s.placed).sum()
 }
 
-pub fn score(stock: &[u32], cuts: &[u32], inst: Instance, c: Candidate) -> CandidateScore
-    requires { Tables stock.now cuts.now inst × Stands (instance_in stock.now cuts.now inst) [] c }
-    ensures { score_in (instance_in stock.now cuts.now inst) c ≡ some (score_of result) }
+pub fn score(inst: &ProblemInstance<'_>, c: &Candidate) -> CandidateScore
+    requires { Stands inst.now [] c.now }
+    ensures { score_in inst.now c.now ≡ some (score_of result) }
 {
-    let areas = sheet_areas(stock, cuts, inst, c);
-    let sheets = &areas[..c.sheets];
+    // The problem is sound: the sums fit.
+    let _sound = inst.stock();
+    let areas = sheet_areas(inst, c);
+    let sheets = areas.as_slice();
     let used = used_stock_area(sheets);
     let cut = placed_cut_area(sheets);
     CandidateScore {
         used_stock_count: c.sheets,
         waste_area: used - cut,
-        fitness: fitness::fitness(sheets),
+        fitness: fitness::candidate_fitness(sheets),
     }
 }

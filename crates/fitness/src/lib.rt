@@ -9,7 +9,7 @@ ghost use Rattle.model.specs.Fitness.{weight, positive_zero};
 ghost use Rattle.fitness.specs.Areas.{share_of, board_areas, fitness_of, Inside};
 
 // A sheet's placed area and its board's area.
-#[derive(Clone, Copy)]
+#[derive(Clone, Copy, Default)]
 pub struct SheetAreas {
     pub placed: u64,
     pub board: u64,
@@ -30,8 +30,8 @@ pub fn sheet_fitness(sheet: SheetAreas) -> f64
     area_as_fitness_weight(sheet.placed) / area_as_fitness_weight(sheet.board)
 }
 
-// The fitness of sheets; none where they have no area.
-pub fn fitness(sheets: &[SheetAreas]) -> Option<f64>
+// The fitness of sheets; none where they have no area (`Candidate::fitness`).
+pub fn candidate_fitness(sheets: &[SheetAreas]) -> Option<f64>
     requires { board_areas sheets.now < 2 ^ 64 }
     ensures { option_of result ≡ fitness_of sheets.now }
 {
@@ -47,10 +47,18 @@ pub fn fitness(sheets: &[SheetAreas]) -> Option<f64>
     Some(weighted / area_as_fitness_weight(total))
 }
 
-// The bits of that fitness, or of 0.0 where there is none: no NaN, where no sheet has more placed on it than its board's area.
+// The same, and 0.0 where there is none.
+pub fn fitness(sheets: &[SheetAreas]) -> f64
+    requires { board_areas sheets.now < 2 ^ 64 }
+    ensures { result ≡ get_or (fitness_of sheets.now) positive_zero }
+{
+    candidate_fitness(sheets).unwrap_or(0.0)
+}
+
+// The bits of that fitness: no NaN, where no sheet has more placed on it than its board's area.
 pub fn fitness_bits(sheets: &[SheetAreas]) -> u64
     requires { (board_areas sheets.now ≤ 2 ^ 53) × Inside sheets.now }
     ensures { result ≡ to_bits binary64 (get_or (fitness_of sheets.now) positive_zero) }
 {
-    f64::to_bits(fitness(sheets).unwrap_or(0.0))
+    f64::to_bits(fitness(sheets))
 }

@@ -1,3 +1,2 @@
-pub mod Nodes
 pub mod Searches
 pub mod Sizes

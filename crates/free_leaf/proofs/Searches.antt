@@ -1,26 +1,29 @@
--- The search by node numbers, in the rows of a tree.
+-- The search by node numbers, among the nodes of a tree.
 use Rattle.std.specs.Prelude.{Some, None, cond, not, position, if◌then◌else◌}
 use Rattle.std.specs.List.{position_or_len}
 use Rattle.std.specs.ControlFlow.{break_value}
 use Rattle.std.specs.declared.ops.ControlFlow.TheVariants.{Break, Continue}
-use Rattle.std.proofs.lemmas.List.{drop-drop, drop_at, drop_all, get_or-drop, map-append}
+use Rattle.std.proofs.lemmas.List.{drop-drop, drop_at, get_or-drop}
 use Rattle.std.proofs.lemmas.List.Sums.{prefix_len-le-length}
 use Rattle.std.proofs.lemmas.List.Folds.{prefix_len-append}
 use Rattle.std.proofs.lemmas.Bool.{ltb-true, ltb-false, lt-ltb, le-ltb, ne_eqb, eq-eqb}
 use mathlib.Core.Path.{◌≡◌, refl, sym, ap, ap₂, ◌∙◌, subst}
 use mathlib.Core.Bool.{Bool, true, false, ◌&&◌}
-use mathlib.Core.List.{List, ◌∷◌, ◌++◌, map, append_assoc}
+use mathlib.Core.List.{List, [], ◌∷◌, ◌++◌, append_assoc, append-nil}
 use Prim.Native.Nat.{ℕ, ◌+◌, ◌<◌, ◌≤◌}
 use native.Mathlib.Nat.{add-zero}
 use native.Mathlib.Omega.{arith}
 use lib.Dec.{eqb, ltb}
-use lib.ListN.{length, get_or, drop}
-use Rattle.lists.proofs.Sums.{length-map}
+use lib.ListN.{length, get_or, drop, length-drop}
 use Rattle.model.specs.declared.Rect.{Rect}
+use Rattle.model.specs.declared.Direction.{Direction}
 use Rattle.model.specs.Types.{same_rect}
 use Rattle.model.specs.Guide.{GuideCut, LeafKind, SliceNode, cut, leaf, free, cut_piece}
-use Rattle.model.specs.Plan.{node_words, preorder}
-use Rattle.free_leaf.specs.Leaves.{is_free_leaf, is_free_row, size, Found, then_past, leaf_from, Onwards, Ends}
+use Rattle.model.specs.Plan.{preorder}
+use Rattle.subtree.specs.declared.Node.{Node}
+use Rattle.subtree.specs.Nodes.{node_of, tree_nodes}
+use Rattle.subtree.proofs.Trees.{tree_nodes_cut, tree_nodes_leaf}
+use Rattle.free_leaf.specs.Leaves.{is_free_leaf, size, Found, then_past, leaf_from, Onwards, Within, Ends, Finds}
 use Rattle.free_leaf.proofs.Sizes.{size_cut}
 
 -- ---- equal rectangles, as `==` and as the definition compare them
@@ -30,20 +33,14 @@ all_four true true r s = refl
 all_four true false r s = refl
 all_four false q r s = refl
 
-same_rect_is : (a b : Rect) → eqb a.x b.x && (eqb a.y b.y && (eqb a.width b.width && eqb a.length b.length)) ≡ same_rect a b
+pub same_rect_is : (a b : Rect) → eqb a.x b.x && (eqb a.y b.y && (eqb a.width b.width && eqb a.length b.length)) ≡ same_rect a b
 unfolding same_rect
 same_rect_is a b = all_four (eqb a.x b.x) (eqb a.y b.y) (eqb a.width b.width) (eqb a.length b.length)
-
-row_is : (target : Rect) (n : SliceNode) → is_free_row target (node_words n) ≡ is_free_leaf target n
-unfolding node_words
-row_is target (cut c a b) = refl
-row_is target (leaf r free) = same_rect_is r target
-row_is target (leaf r (cut_piece key)) = refl
 
 -- ---- the search ends at the first free leaf, or past the tree
 
 abbrev first_of : Rect → SliceNode → ℕ
-first_of target tree = position_or_len (is_free_leaf target) (preorder tree)
+first_of target tree = position_or_len (is_free_leaf target) (tree_nodes tree)
 
 abbrev ended : ℕ → ℕ → ℕ → Found
 ended at k m = cond (ltb k m) (Break (at + k)) (Continue (at + m))
@@ -78,11 +75,12 @@ both_ended at ka sa kb sb h = go (ltb ka sa) refl
 
 cut_places : (target : Rect) (c : GuideCut) (a b : SliceNode)
     → first_of target (cut c a b) ≡ 1 + cond (eqb (first_of target a) (size a)) (size a + first_of target b) (first_of target a)
-unfolding preorder
-cut_places target c a b = ap (λ (k : ℕ). 1 + k) (prefix_len-append (λ n. not (is_free_leaf target n)) (preorder a) (preorder b))
+cut_places target c a b =
+    ap (position_or_len (is_free_leaf target)) (tree_nodes_cut c a b)
+    ∙ ap (λ (k : ℕ). 1 + k) (prefix_len-append (λ n. not (is_free_leaf target n)) (tree_nodes a) (tree_nodes b))
 
 first_within : (target : Rect) (t : SliceNode) → first_of target t ≤ size t
-first_within target t = prefix_len-le-length (λ n. not (is_free_leaf target n)) (preorder t)
+first_within target t = prefix_len-le-length (λ n. not (is_free_leaf target n)) (tree_nodes t)
 
 places : (target : Rect) (at : ℕ) (t : SliceNode) → leaf_from target at t ≡ ended at (first_of target t) (size t)
 unfolding leaf_from preorder
@@ -109,7 +107,7 @@ past_size target at t next e = subst (PastIs (at + size t)) (sym (e ∙ places t
     either true = tt
     either false = refl
 
-pub found_is : (target : Rect) (t : SliceNode) → break_value (leaf_from target 0 t) ≡ position (is_free_leaf target) (preorder t)
+pub found_is : (target : Rect) (t : SliceNode) → break_value (leaf_from target 0 t) ≡ position (is_free_leaf target) (tree_nodes t)
 found_is target t = ap break_value (places target 0 t) ∙ either (ltb (first_of target t) (size t))
   where
     either : (b : Bool) → break_value (cond b (Break (0 + first_of target t)) (Continue (0 + size t))) ≡ cond b (Some (first_of target t)) None
@@ -118,101 +116,107 @@ found_is target t = ap break_value (places target 0 t) ∙ either (ltb (first_of
 
 -- ---- the ways through the search
 
-abbrev rows_of : SliceNode → List (List ℕ)
-rows_of t = map node_words (preorder t)
-
-rows_size : (t : SliceNode) → length (rows_of t) ≡ size t
-rows_size t = length-map node_words (preorder t)
-
-cut_rows : (c : GuideCut) (a b : SliceNode) (rest : List (List ℕ)) → rows_of (cut c a b) ++ rest ≡ node_words (cut c a b) ∷ (rows_of a ++ (rows_of b ++ rest))
-unfolding preorder
-cut_rows c a b rest = ap (λ (l : List (List ℕ)). node_words (cut c a b) ∷ l) (ap (λ (l : List (List ℕ)). l ++ rest) (map-append node_words (preorder a) (preorder b)) ∙ append_assoc (rows_of a) (rows_of b) rest)
-
-leaf_rows : (r : Rect) (k : LeafKind) (rest : List (List ℕ)) → rows_of (leaf r k) ++ rest ≡ node_words (leaf r k) ∷ rest
-unfolding preorder
-leaf_rows r k rest = refl
-
-cut_kind : (c : GuideCut) (a b : SliceNode) → get_or (node_words (cut c a b)) 0 0 ≡ 0
-unfolding node_words
-cut_kind c a b = refl
-
-leaf_kind : (r : Rect) (k : LeafKind) → get_or (node_words (leaf r k)) 0 0 ≡ 0 → ⊥
-unfolding node_words
-leaf_kind r free e = omega (arith, e)
-leaf_kind r (cut_piece key) e = omega (arith, e)
-
-leaf_search : (target : Rect) (at : ℕ) (r : Rect) (k : LeafKind) → (if is_free_leaf target (leaf r k) then Break at else Continue (at + 1)) ≡ leaf_from target at (leaf r k)
+leaf_search : (target : Rect) (at : ℕ) (r : Rect) (k : LeafKind) → (if is_free_leaf target (node_of (leaf r k)) then Break at else Continue (at + 1)) ≡ leaf_from target at (leaf r k)
 unfolding leaf_from
 leaf_search target at r free = refl
 leaf_search target at r (cut_piece key) = refl
 
-module _ (rows : List (List ℕ)) (at : ℕ) where
+cut_front : (c : GuideCut) (a b : SliceNode) (rest : List Node) → tree_nodes (cut c a b) ++ rest ≡ node_of (cut c a b) ∷ (tree_nodes a ++ (tree_nodes b ++ rest))
+cut_front c a b rest = ap (λ (l : List Node). l ++ rest) (tree_nodes_cut c a b) ∙ ap (λ (l : List Node). node_of (cut c a b) ∷ l) (append_assoc (tree_nodes a) (tree_nodes b) rest)
+
+leaf_front : (r : Rect) (k : LeafKind) (rest : List Node) → tree_nodes (leaf r k) ++ rest ≡ node_of (leaf r k) ∷ rest
+leaf_front r k rest = ap (λ (l : List Node). l ++ rest) (tree_nodes_leaf r k)
+
+module _ (nodes : List Node) (at : ℕ) (target : Rect) where
   -- the first of what stands there, and the rest
-  module _ (n : List ℕ) (rest : List (List ℕ)) (e : drop at rows ≡ n ∷ rest) where
-    within : length rows ≤ at → ⊥
-    within h = omega (arith, ap length (sym (drop_all at rows h) ∙ e))
+  module _ (n : Node) (rest : List Node) (e : drop at nodes ≡ n ∷ rest) where
+    inside : at < length nodes
+    inside = omega (arith, ap length e, length-drop at nodes)
 
-    first_row : (d : List ℕ) → get_or rows at d ≡ n
-    first_row d = ap (λ (i : ℕ). get_or rows i d) (sym (add-zero at)) ∙ sym (get_or-drop at rows 0 d) ∙ ap (λ (l : List (List ℕ)). get_or l 0 d) e
+    first_node : (d : Node) → get_or nodes at d ≡ n
+    first_node d = ap (λ (i : ℕ). get_or nodes i d) (sym (add-zero at)) ∙ sym (get_or-drop at nodes 0 d) ∙ ap (λ (l : List Node). get_or l 0 d) e
 
-    rows_behind : drop (at + 1) rows ≡ rest
-    rows_behind = sym (drop-drop 1 at rows) ∙ ap (drop 1) e
+    nodes_behind : drop (at + 1) nodes ≡ rest
+    nodes_behind = sym (drop-drop 1 at nodes) ∙ ap (drop 1) e
 
-  module _ (target : Rect) where
-    pub ends_past : length rows ≤ at → Ends rows at target (Continue at)
-    ends_past h = record { onwards = omega arith; ends = go }
+  pub ends_past : length nodes ≤ at → Ends nodes at target (Continue at)
+  ends_past h = record { onwards = omega arith; ends = go }
+    where
+      go : (t : SliceNode) (rest : List Node) → drop at nodes ≡ tree_nodes t ++ rest → Continue at ≡ leaf_from target at t
+      go (cut c a b) rest e = absurd (let i = inside _ _ (e ∙ cut_front c a b rest) in omega arith)
+      go (leaf r k) rest e = absurd (let i = inside _ _ (e ∙ leaf_front r k rest) in omega arith)
+
+  module _ (n : Node) (is : n ≡ get_or nodes at n) where
+    is_first : (m : Node) (rest : List Node) → drop at nodes ≡ m ∷ rest → n ≡ m
+    is_first m rest e = is ∙ first_node m rest e n
+
+    -- no cut
+    ends_leaf : at < length nodes → ((work : Rect) (o : Direction) (offset kerf : ℕ) → n ≡ Node.Cut work o offset kerf → ⊥) → (b : Bool) → b ≡ is_free_leaf target n
+        → Ends nodes at target (if b then Break at else Continue (at + 1))
+    ends_leaf h other b f = record { onwards = onwards b; ends = go }
       where
-        go : (t : SliceNode) (rest : List (List ℕ)) → drop at rows ≡ rows_of t ++ rest → Continue at ≡ leaf_from target at t
-        go (cut c a b) rest e = absurd (within _ _ (e ∙ cut_rows c a b rest) h)
-        go (leaf r k) rest e = absurd (within _ _ (e ∙ leaf_rows r k rest) h)
+        onwards : (b : Bool) → Onwards nodes at (if b then Break at else Continue (at + 1))
+        onwards true = h
+        onwards false = omega arith
 
-    module _ (row : List ℕ) (is : row ≡ get_or rows at row) where
-      -- no cut
-      pub ends_leaf : (get_or row 0 0 ≡ 0 → ⊥) → (b : Bool) → b ≡ is_free_row target row → Ends rows at target (if b then Break at else Continue (at + 1))
-      ends_leaf z b f = record { onwards = onwards b; ends = go }
+        go : (t : SliceNode) (rest : List Node) → drop at nodes ≡ tree_nodes t ++ rest → (if b then Break at else Continue (at + 1)) ≡ leaf_from target at t
+        go (cut c x y) rest e = absurd (other c.work_rect c.orientation c.offset c.kerf_width (is_first _ _ (e ∙ cut_front c x y rest)))
+        go (leaf r k) rest e =
+            ap (λ (t : Bool). if t then Break at else Continue (at + 1)) (f ∙ ap (is_free_leaf target) (is_first _ _ (e ∙ leaf_front r k rest)))
+            ∙ leaf_search target at r k
+
+    pub ends_at : at < length nodes → ((work : Rect) (o : Direction) (offset kerf : ℕ) → n ≡ Node.Cut work o offset kerf → ⊥) → true ≡ is_free_leaf target n → Ends nodes at target (Break at)
+    ends_at h other f = ends_leaf h other true f
+
+    pub ends_behind : at < length nodes → ((work : Rect) (o : Direction) (offset kerf : ℕ) → n ≡ Node.Cut work o offset kerf → ⊥) → false ≡ is_free_leaf target n
+        → Ends nodes at target (Continue (at + 1))
+    ends_behind h other f = ends_leaf h other false f
+
+    -- a cut
+    module _ (work : Rect) (o : Direction) (offset kerf : ℕ) (f : n ≡ Node.Cut work o offset kerf) where
+      no_leaf : (r : Rect) (k : LeafKind) (rest : List Node) → drop at nodes ≡ tree_nodes (leaf r k) ++ rest → ⊥
+      no_leaf r free rest e = (let other = sym f ∙ is_first _ _ (e ∙ leaf_front r free rest) in cc)
+      no_leaf r (cut_piece key) rest e = (let other = sym f ∙ is_first _ _ (e ∙ leaf_front r (cut_piece key) rest) in cc)
+
+      pub ends_first : (i : ℕ) → Ends nodes (at + 1) target (Break i) → Ends nodes at target (Break i)
+      unfolding leaf_from
+      ends_first i first = record { onwards = first.onwards; ends = go }
         where
-          onwards : (b : Bool) → Onwards at (if b then Break at else Continue (at + 1))
-          onwards true = tt
-          onwards false = omega arith
+          go : (t : SliceNode) (rest : List Node) → drop at nodes ≡ tree_nodes t ++ rest → Break i ≡ leaf_from target at t
+          go (cut c a b) rest e =
+              ap (λ (o : Found). then_past o (λ next. leaf_from target next b)) (first.ends a (tree_nodes b ++ rest) (nodes_behind _ _ (e ∙ cut_front c a b rest)))
+          go (leaf r k) rest e = absurd (no_leaf r k rest e)
 
-          go : (t : SliceNode) (rest : List (List ℕ)) → drop at rows ≡ rows_of t ++ rest → (if b then Break at else Continue (at + 1)) ≡ leaf_from target at t
-          go (cut c a b') rest e =
-              absurd (z (ap (λ (l : List ℕ). get_or l 0 0) (is ∙ first_row _ _ (e ∙ cut_rows c a b' rest) row) ∙ cut_kind c a b'))
-          go (leaf r k) rest e =
-              ap (λ (t : Bool). if t then Break at else Continue (at + 1))
-              (f ∙ ap (is_free_row target) (is ∙ first_row _ _ (e ∙ leaf_rows r k rest) row) ∙ row_is target (leaf r k))
-              ∙ leaf_search target at r k
+      pub ends_second : (next : ℕ) (second : Found) → Ends nodes (at + 1) target (Continue next) → Ends nodes next target second → Ends nodes at target second
+      unfolding leaf_from
+      ends_second next second first behind = record { onwards = onwards second behind.onwards; ends = go }
+        where
+          onwards : (o : Found) → Onwards nodes next o → Onwards nodes at o
+          onwards (Break i) h = h
+          onwards (Continue j) h = (let le = first.onwards in omega arith)
 
-      -- a cut
-      module _ (z : get_or row 0 0 ≡ 0) where
-        no_leaf : (r : Rect) (k : LeafKind) (rest : List (List ℕ)) → drop at rows ≡ rows_of (leaf r k) ++ rest → ⊥
-        no_leaf r k rest e = leaf_kind r k (sym (ap (λ (l : List ℕ). get_or l 0 0) (is ∙ first_row _ _ (e ∙ leaf_rows r k rest) row)) ∙ z)
+          go : (t : SliceNode) (rest : List Node) → drop at nodes ≡ tree_nodes t ++ rest → second ≡ leaf_from target at t
+          go (cut c a b) rest e =
+              let children : drop (at + 1) nodes ≡ tree_nodes a ++ (tree_nodes b ++ rest) = nodes_behind _ _ (e ∙ cut_front c a b rest) in
+              let searched : Continue next ≡ leaf_from target (at + 1) a = first.ends a (tree_nodes b ++ rest) children in
+              let past : next ≡ at + 1 + size a = past_size target (at + 1) a next searched in
+              let there : drop next nodes ≡ tree_nodes b ++ rest =
+              ap (λ (m : ℕ). drop m nodes) past ∙ sym (drop-drop (size a) (at + 1) nodes) ∙ ap (drop (size a)) children
+              ∙ drop_at (tree_nodes a) (tree_nodes b ++ rest) (size a) refl
+              in
+              behind.ends b rest there ∙ ap (λ (o : Found). then_past o (λ next. leaf_from target next b)) searched
+          go (leaf r k) rest e = absurd (no_leaf r k rest e)
 
-        pub ends_first : (i : ℕ) → Ends rows (at + 1) target (Break i) → Ends rows at target (Break i)
-        unfolding leaf_from
-        ends_first i first = record { onwards = tt; ends = go }
-          where
-            go : (t : SliceNode) (rest : List (List ℕ)) → drop at rows ≡ rows_of t ++ rest → Break i ≡ leaf_from target at t
-            go (cut c a b) rest e =
-                ap (λ (o : Found). then_past o (λ next. leaf_from target next b)) (first.ends a (rows_of b ++ rest) (rows_behind _ _ (e ∙ cut_rows c a b rest)))
-            go (leaf r k) rest e = absurd (no_leaf r k rest e)
+-- ---- what the whole search finds
 
-        pub ends_second : (next : ℕ) (second : Found) → Ends rows (at + 1) target (Continue next) → Ends rows next target second → Ends rows at target second
-        unfolding leaf_from
-        ends_second next second first behind = record { onwards = onwards second behind.onwards; ends = go }
-          where
-            onwards : (o : Found) → Onwards next o → Onwards at o
-            onwards (Break i) h = tt
-            onwards (Continue j) h = (let le = first.onwards in omega arith)
+pub within : (nodes : List Node) (at : ℕ) (found : Found) → Onwards nodes at found → Within nodes (break_value found)
+within nodes at (Break i) h = h
+within nodes at (Continue j) h = tt
 
-            go : (t : SliceNode) (rest : List (List ℕ)) → drop at rows ≡ rows_of t ++ rest → second ≡ leaf_from target at t
-            go (cut c a b) rest e =
-                let children : drop (at + 1) rows ≡ rows_of a ++ (rows_of b ++ rest) = rows_behind _ _ (e ∙ cut_rows c a b rest) in
-                let searched : Continue next ≡ leaf_from target (at + 1) a = first.ends a (rows_of b ++ rest) children in
-                let past : next ≡ at + 1 + size a = past_size target (at + 1) a next searched in
-                let there : drop next rows ≡ rows_of b ++ rest =
-                ap (λ (m : ℕ). drop m rows) past ∙ sym (drop-drop (size a) (at + 1) rows) ∙ ap (drop (size a)) children
-                ∙ drop_at (rows_of a) (rows_of b ++ rest) (size a) (rows_size a)
-                in
-                behind.ends b rest there ∙ ap (λ (o : Found). then_past o (λ next. leaf_from target next b)) searched
-            go (leaf r k) rest e = absurd (no_leaf r k rest e)
+pub finds : (nodes : List Node) (target : Rect) (found : Found) → Ends nodes 0 target found → Finds nodes target (break_value found)
+finds nodes target found e =
+    record {
+      within = within nodes 0 found e.onwards;
+      finds = λ tree is.
+          ap break_value (e.ends tree [] (is ∙ sym (append-nil (tree_nodes tree)))) ∙ found_is target tree ∙ ap (position (is_free_leaf target)) (sym is);
+    }

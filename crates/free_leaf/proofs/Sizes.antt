@@ -1,16 +1,15 @@
 -- The size of a tree, by its two parts.
 use Prim.Native.Nat.{suc, ◌+◌}
-use mathlib.Core.Path.{◌≡◌, refl, ap}
-use lib.ListN.{length-append}
+use mathlib.Core.Path.{◌≡◌, ap, ◌∙◌}
+use lib.ListN.{length, length-append}
 use Rattle.model.specs.declared.Rect.{Rect}
 use Rattle.model.specs.Guide.{GuideCut, LeafKind, SliceNode, cut, leaf}
-use Rattle.model.specs.Plan.{preorder}
+use Rattle.subtree.specs.Nodes.{tree_nodes}
+use Rattle.subtree.proofs.Trees.{tree_nodes_cut, tree_nodes_leaf}
 use Rattle.free_leaf.specs.Leaves.{size}
 
 pub size_cut : (c : GuideCut) (a b : SliceNode) → size (cut c a b) ≡ suc (size a + size b)
-unfolding preorder
-size_cut c a b = ap suc (length-append (preorder a) (preorder b))
+size_cut c a b = ap length (tree_nodes_cut c a b) ∙ ap suc (length-append (tree_nodes a) (tree_nodes b))
 
 pub size_leaf : (r : Rect) (k : LeafKind) → size (leaf r k) ≡ 1
-unfolding preorder
-size_leaf r k = refl
+size_leaf r k = ap length (tree_nodes_leaf r k)

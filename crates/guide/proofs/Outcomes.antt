@@ -1,11 +1,11 @@
--- A free leaf replaced in the words of a tree.
+-- A free leaf replaced among the nodes of a tree.
 use Rattle.std.specs.Prelude.{cond, not}
 use Rattle.std.specs.List.{prefix_len, position_or_len}
-use mathlib.Core.Path.{◌≡◌, refl, sym, ap, ap₂, ◌∙◌}
+use mathlib.Core.Path.{◌≡◌, refl, sym, ap, ◌∙◌}
 use mathlib.Core.Bool.{Bool, true, false}
 use mathlib.Core.List.{List, [], ◌∷◌, ◌++◌, append_assoc, append-nil}
 use mathlib.Core.Option.{none, some}
-use Prim.Native.Nat.{ℕ, suc, ◌+◌, ◌*◌, ◌≤◌, ◌<◌}
+use Prim.Native.Nat.{ℕ, suc, ◌+◌, ◌≤◌, ◌<◌}
 use native.Mathlib.Omega.{arith}
 use borrow.Author.Tests.{ltb-true, ltb-false}
 use lib.Dec.{T, ltb}
@@ -13,11 +13,11 @@ use lib.ListN.{length, length-append}
 use Rattle.model.specs.declared.Rect.{Rect}
 use Rattle.model.specs.Types.{same_rect}
 use Rattle.model.specs.Guide.{GuideCut, SliceNode, cut, leaf, free, cut_piece, replace_free_leaf}
-use Rattle.model.specs.Plan.{preorder, node_words}
+use Rattle.model.specs.Plan.{preorder}
 use Rattle.trust.proofs.Guide.{same_rect_eq}
-use Rattle.trust.proofs.RoundTrip.{node_size_lem, nodes_size}
-use Rattle.subtree.specs.Words.{tree_words}
-use Rattle.subtree.proofs.Trees.{tree_words_cut, tree_words_leaf}
+use Rattle.subtree.specs.declared.Node.{Node}
+use Rattle.subtree.specs.Nodes.{node_of, tree_nodes}
+use Rattle.subtree.proofs.Trees.{tree_nodes_cut, tree_nodes_leaf}
 use Rattle.free_leaf.specs.Leaves.{is_free_leaf, size}
 use Rattle.free_leaf.proofs.Sizes.{size_cut, size_leaf}
 
@@ -45,15 +45,15 @@ module _ {X : Type 0} (q : X → Bool) where
 pub record Spliced (target : Rect) (i : ℕ) (sub tree : SliceNode) : Type 0 where
   pub after : SliceNode
   pub made : replace_free_leaf tree target sub ≡ some after
-  pub front : List ℕ
-  pub back : List ℕ
-  pub place : length front ≡ 8 * i
-  pub was : tree_words tree ≡ front ++ (node_words (leaf target free) ++ back)
-  pub is : tree_words after ≡ front ++ (tree_words sub ++ back)
+  pub front : List Node
+  pub back : List Node
+  pub place : length front ≡ i
+  pub was : tree_nodes tree ≡ front ++ (Node.Free target ∷ back)
+  pub is : tree_nodes after ≡ front ++ (tree_nodes sub ++ back)
 
 -- the first free leaf's number, or the size where there is none
 abbrev pub first_of : Rect → SliceNode → ℕ
-first_of target tree = position_or_len (is_free_leaf target) (preorder tree)
+first_of target tree = position_or_len (is_free_leaf target) (tree_nodes tree)
 
 module _ (target : Rect) (sub : SliceNode) where
   pub record Outcome (tree : SliceNode) (k : ℕ) : Type 0 where
@@ -61,21 +61,17 @@ module _ (target : Rect) (sub : SliceNode) where
     pub none_found : size tree ≤ k → replace_free_leaf tree target sub ≡ none
 
   module _ (c : GuideCut) (a b : SliceNode) where
-    node_words_cut : (a' b' : SliceNode) → node_words (cut c a' b') ≡ node_words (cut c a b)
-    unfolding node_words
-    node_words_cut a' b' = refl
-
     in_first_lem : (i j : ℕ) → j ≡ 1 + i → Spliced target i sub a → Spliced target j sub (cut c a b)
     unfolding replace_free_leaf
     in_first_lem i j e s =
         record {
           after = cut c s.after b;
           made = rw s.made;
-          front = node_words (cut c a b) ++ s.front;
-          back = s.back ++ tree_words b;
-          place = omega (arith, s.place, length-append (node_words (cut c a b)) s.front, node_size_lem (cut c a b));
-          was = tree_words_cut c a b ∙ ap (λ (l : List ℕ). node_words (cut c a b) ++ (l ++ tree_words b)) s.was ∙ simp append_assoc;
-          is = tree_words_cut c s.after b ∙ ap₂ (λ (l m : List ℕ). l ++ (m ++ tree_words b)) (node_words_cut s.after b) s.is ∙ simp append_assoc;
+          front = node_of (cut c a b) ∷ s.front;
+          back = s.back ++ tree_nodes b;
+          place = omega (arith, s.place, e);
+          was = tree_nodes_cut c a b ∙ ap (λ (l : List Node). node_of (cut c a b) ∷ (l ++ tree_nodes b)) s.was ∙ simp append_assoc;
+          is = tree_nodes_cut c s.after b ∙ ap (λ (l : List Node). node_of (cut c a b) ∷ (l ++ tree_nodes b)) s.is ∙ simp append_assoc;
         }
 
     in_second_lem : (i j : ℕ) → j ≡ 1 + (size a + i) → replace_free_leaf a target sub ≡ none → Spliced target i sub b → Spliced target j sub (cut c a b)
@@ -84,20 +80,19 @@ module _ (target : Rect) (sub : SliceNode) where
         record {
           after = cut c a s.after;
           made = rw (n, s.made);
-          front = node_words (cut c a b) ++ (tree_words a ++ s.front);
+          front = node_of (cut c a b) ∷ (tree_nodes a ++ s.front);
           back = s.back;
-          place = omega (arith, s.place, length-append (node_words (cut c a b)) (tree_words a ++ s.front), length-append (tree_words a) s.front, node_size_lem (cut c a b), nodes_size (preorder a));
-          was = tree_words_cut c a b ∙ ap (λ (l : List ℕ). node_words (cut c a b) ++ (tree_words a ++ l)) s.was ∙ simp append_assoc;
-          is = tree_words_cut c a s.after ∙ ap₂ (λ (l m : List ℕ). l ++ (tree_words a ++ m)) (node_words_cut a s.after) s.is ∙ simp append_assoc;
+          place = omega (arith, s.place, e, length-append (tree_nodes a) s.front);
+          was = tree_nodes_cut c a b ∙ ap (λ (l : List Node). node_of (cut c a b) ∷ (tree_nodes a ++ l)) s.was ∙ simp append_assoc;
+          is = tree_nodes_cut c a s.after ∙ ap (λ (l : List Node). node_of (cut c a b) ∷ (tree_nodes a ++ l)) s.is ∙ simp append_assoc;
         }
 
     in_neither : replace_free_leaf a target sub ≡ none → replace_free_leaf b target sub ≡ none → replace_free_leaf (cut c a b) target sub ≡ none
     unfolding replace_free_leaf
     in_neither e f = rw (e, f)
 
-    behind : first_of target (cut c a b) ≡ 1 + prefix_len (λ n. not (is_free_leaf target n)) (preorder a ++ preorder b)
-    unfolding preorder
-    behind = refl
+    behind : first_of target (cut c a b) ≡ 1 + prefix_len (λ n. not (is_free_leaf target n)) (tree_nodes a ++ tree_nodes b)
+    behind = ap (position_or_len (is_free_leaf target)) (tree_nodes_cut c a b)
 
     in_cut : Outcome a (first_of target a) → Outcome b (first_of target b) → Outcome (cut c a b) (first_of target (cut c a b))
     in_cut o p = go (ltb (first_of target a) (size a)) refl
@@ -106,7 +101,7 @@ module _ (target : Rect) (sub : SliceNode) where
         go true e =
             let lt : first_of target a < size a = ltb-true (first_of target a) (size a) e in
             let is : first_of target (cut c a b) ≡ 1 + first_of target a =
-            behind ∙ ap (λ (n : ℕ). 1 + n) (prefix_first (λ n. not (is_free_leaf target n)) (preorder a) (preorder b) lt)
+            behind ∙ ap (λ (n : ℕ). 1 + n) (prefix_first (λ n. not (is_free_leaf target n)) (tree_nodes a) (tree_nodes b) lt)
             in
             record {
               found = λ h. in_first_lem (first_of target a) (first_of target (cut c a b)) is (o.found lt);
@@ -115,7 +110,7 @@ module _ (target : Rect) (sub : SliceNode) where
         go false e =
             let le : size a ≤ first_of target a = ltb-false (first_of target a) (size a) e in
             let is : first_of target (cut c a b) ≡ 1 + (size a + first_of target b) =
-            behind ∙ ap (λ (n : ℕ). 1 + n) (prefix_second (λ n. not (is_free_leaf target n)) (preorder a) (preorder b) le)
+            behind ∙ ap (λ (n : ℕ). 1 + n) (prefix_second (λ n. not (is_free_leaf target n)) (tree_nodes a) (tree_nodes b) le)
             in
             record {
               found = λ h. in_second_lem (first_of target b) (first_of target (cut c a b)) is (o.none_found le) (p.found (omega (arith, size_cut c a b)));
@@ -132,8 +127,8 @@ module _ (target : Rect) (sub : SliceNode) where
           front = [];
           back = [];
           place = omega arith;
-          was = tree_words_leaf r free ∙ ap (λ (x : Rect). node_words (leaf x free)) (same tt) ∙ sym (append-nil (node_words (leaf target free)));
-          is = sym (append-nil (tree_words sub));
+          was = tree_nodes_leaf r free ∙ ap (λ (x : Rect). Node.Free x ∷ []) (same tt);
+          is = sym (append-nil (tree_nodes sub));
         };
         none_found = λ h. absurd (omega (arith, size_leaf r free));
       }

@@ -1,9 +1,11 @@
 -- The guide of a sheet along its making: what the plan's writer shows at each call.
-use mathlib.Core.Path.{◌≡◌, refl}
+use mathlib.Core.Path.{◌≡◌, refl, ap}
 use mathlib.Core.List.{List}
-use Prim.Native.Nat.{ℕ, ◌+◌, ◌*◌, ◌≤◌, ◌<◌}
+use Prim.Native.Nat.{ℕ, ◌+◌, ◌≤◌, ◌<◌}
 use native.Mathlib.Omega.{arith}
 use lib.ListN.{length}
+use Rattle.lists.proofs.Sums.{length-map}
+use Rattle.model.specs.Plan.{nodes_of}
 use Rattle.model.specs.Refusal.{most_side}
 use Rattle.model.specs.Split.{split_direction}
 use Rattle.model.specs.Merge.{merges_any}
@@ -12,9 +14,9 @@ use Rattle.trust.proofs.Placing.{Good}
 use Rattle.trust.proofs.RectLayout.{layout_perm}
 use Rattle.trust.proofs.Sheet.{Sound, chosen_first, lies_positive}
 use Rattle.trust.proofs.Sizes.{NodeCount}
-use Rattle.subtree.specs.Words.{InCorner}
-use Rattle.subtree.specs.Words.{Holds}
-use Rattle.guide.specs.Words.{split_guide, next_guide}
+use Rattle.subtree.specs.declared.Node.{Node}
+use Rattle.subtree.specs.Nodes.{node_of, guide_nodes, InCorner}
+use Rattle.guide.specs.Guides.{split_guide, next_guide}
 
 -- ---- the definition's steps
 
@@ -39,5 +41,5 @@ module _ (kerf : ℕ) (s : GuillotineSheet) (i : Insertion) (p : Place) where
 
 -- ---- room for four nodes more, in 257 of them
 
-pub room : (w : List ℕ) (n : ℕ) (s : GuillotineSheet) → Holds w n s.slicing_tree → NodeCount s → length s.placed_pieces < 64 → 8 * n + 32 ≤ 2056
-room w n s h c k = omega (arith, h.counts)
+pub room : (nodes : List Node) (s : GuillotineSheet) → nodes ≡ guide_nodes s.slicing_tree → NodeCount s → length s.placed_pieces < 64 → length nodes + 4 ≤ 257
+room nodes s h c k = omega (arith, ap length h, length-map node_of (nodes_of s.slicing_tree))

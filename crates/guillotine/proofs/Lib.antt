@@ -1,4 +1,2 @@
-pub mod Replacing
 pub mod Steps
-pub mod Touching
 pub mod Sheets

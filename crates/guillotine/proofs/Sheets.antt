@@ -1,6 +1,6 @@
--- An insertion into the words is the definition's insertion into every sheet that they show; and what a caller needs to go on.
+-- An insertion into the free rectangles is the definition's insertion into every sheet that has them; and what a caller needs to go on.
 use Rattle.std.specs.Prelude.{None, Some}
-use Prim.Native.Nat.{ℕ, ◌≤◌, ◌<◌}
+use Prim.Native.Nat.{ℕ, ◌≤◌}
 use native.Mathlib.Omega.{arith}
 use mathlib.Core.Path.{◌≡◌, refl, sym, ap, ◌∙◌}
 use mathlib.Core.Bool.{Bool}
@@ -27,78 +27,64 @@ use Rattle.choice.specs.declared.Score.{Score}
 use Rattle.split.specs.Bounds.{Small, Inside}
 use Rattle.split.proofs.Remainders.{split_small, swap_small}
 use Rattle.merging.proofs.Rounds.{rounds_small}
-use Rattle.rect_words.specs.SheetWords.{rects_in, with_rects, Shows, most_rects, block_words}
-use Rattle.best_place.specs.Places.{place_at, FindsBest}
-use Rattle.guillotine.specs.Insertions.{Ready, Insertable, At, split_by, Replaces, InsertsInto, Inserts}
-use Rattle.rect_words.proofs.Words.{rects_with, length_with, count_with}
+use Rattle.best_place.specs.Places.{place_at, Shows, FindsBest}
+use Rattle.guillotine.specs.Insertions.{Ready, At, split_by, Replaces, InsertsInto, Inserts}
 
 -- ---- what the answer of the search says
 
--- a sheet that the words show
-shown : List ℕ → PatternDirection → GuillotineSheet
-shown w pattern =
+-- a sheet that has the rectangles
+shown : List Rect → PatternDirection → GuillotineSheet
+shown free pattern =
     record {
       stock = record { stock_id = 0; instance = 0; width = 0; length = 0; pattern = pattern };
-      free_rects = rects_in w;
+      free_rects = free;
       placed_pieces = [];
       slicing_tree = none;
     }
 
-module _ (kerf : ℕ) (pattern : PatternDirection) (cut : CutInstance) (h : BaselineGuillotineHeuristic) (w : List ℕ) where
-  -- no place: the words stay
-  pub stays : FindsBest w cut pattern h None → Inserts kerf pattern cut h w w None
+module _ (kerf : ℕ) (pattern : PatternDirection) (cut : CutInstance) (h : BaselineGuillotineHeuristic) (free : List Rect) where
+  -- no place: the rectangles stay
+  pub stays : FindsBest free cut pattern h None → Inserts kerf pattern cut h free free None
   unfolding try_insert
   stays f = λ s v.
       let e = f.place s v in
-      record { place = e; merged = rw (← e); words = rw (← e) }
+      record { place = e; merged = rw (← e); rects = rw (← e) }
 
-  module _ (i : ℕ) (r : Rect) (q : FitResult) (score : Score) (f : FindsBest w cut pattern h (Some (record { index = i; free_rect = r; fit = q; score = score }))) where
-    good : Good (shown w pattern) (record { cut = cut; heuristic = h }) (place_at i r q)
+  module _ (i : ℕ) (r : Rect) (q : FitResult) (score : Score) (f : FindsBest free cut pattern h (Some (record { index = i; free_rect = r; fit = q; score = score }))) where
+    good : Good (shown free pattern) (record { cut = cut; heuristic = h }) (place_at i r q)
     unfolding shown
-    good = best_place_good (shown w pattern) (record { cut = cut; heuristic = h }) (place_at i r q) (sym (f.place (shown w pattern) (record { rects = refl; grain = refl })))
+    good = best_place_good (shown free pattern) (record { cut = cut; heuristic = h }) (place_at i r q) (sym (f.place (shown free pattern) (record { rects = refl; grain = refl })))
 
-    pub found_at : At (rects_in w) i r
+    pub found_at : At free i r
     unfolding shown
     found_at = record { inside = good.inside; there = good.there }
 
     pub found_inside : Inside q.rect r
     found_inside = record { across = good.fits.corner.width; along = good.fits.corner.length }
 
-    split_same : (s : GuillotineSheet) → Shows w pattern s
-        → split_by kerf i r q.rect (split_direction r q.rect h.split) (rects_in w) ≡ split_rects kerf s (record { cut = cut; heuristic = h }) (place_at i r q)
+    split_same : (s : GuillotineSheet) → Shows free pattern s
+        → split_by kerf i r q.rect (split_direction r q.rect h.split) free ≡ split_rects kerf s (record { cut = cut; heuristic = h }) (place_at i r q)
     unfolding split_rects split_by
     split_same s v = rw v.rects
 
-    pub inserts : (v : List ℕ) (m : Bool) → Replaces kerf (split_by kerf i r q.rect (split_direction r q.rect h.split) (rects_in w)) w v m
-        → Inserts kerf pattern cut h w v (Some (record { index = i; free_rect = r; fit = q; merged = m }))
+    pub inserts : (after : List Rect) (m : Bool) → Replaces kerf (split_by kerf i r q.rect (split_direction r q.rect h.split) free) after m
+        → Inserts kerf pattern cut h free after (Some (record { index = i; free_rect = r; fit = q; merged = m }))
     unfolding try_insert insert_at
-    inserts v m k = λ s t.
+    inserts after m k = λ s t.
         let b = f.place s t in
         let same = split_same s t in
         record {
           place = b;
           merged = rw (← b) (ap some (k.any ∙ ap (merges_any kerf) same));
-          words = rw (← b) (k.words ∙ ap (λ (l : List Rect). with_rects (merge_free_rects kerf l) w) same);
+          rects = rw (← b) (k.rects ∙ ap (merge_free_rects kerf) same);
         }
 
 -- ---- what a caller needs to go on
 
--- words written for a sheet show it
-pub shows_with : (s : GuillotineSheet) (w : List ℕ) → Shows (with_rects s.free_rects w) s.stock.pattern s
-shows_with s w = record { rects = sym (rects_with s.free_rects w); grain = refl }
-
-pub insertable_with : (kerf : ℕ) (rs : List Rect) (w : List ℕ) → block_words ≤ length w → length rs < most_rects → Ready kerf rs → Insertable kerf (with_rects rs w)
-insertable_with kerf rs w h few ready =
-    record {
-      room = omega (arith, length_with rs w (omega arith));
-      few = omega (arith, count_with rs w);
-      ready = rw (rects_with rs w) ready;
-    }
-
--- the bare board, after `new_sheet`
-pub new_shows : (stock : StockInstance) (w : List ℕ) → Shows (with_rects (stock_rect stock ∷ []) w) stock.pattern (new_sheet stock)
+-- the bare board
+pub new_shows : (stock : StockInstance) → Shows (stock_rect stock ∷ []) stock.pattern (new_sheet stock)
 unfolding new_sheet
-new_shows stock w = shows_with (new_sheet stock) w
+new_shows stock = record { rects = refl; grain = refl }
 
 pub new_ready : (kerf : ℕ) (stock : StockInstance) → kerf ≤ most_side → stock.width ≤ most_side → stock.length ≤ most_side → Ready kerf (new_sheet stock).free_rects
 unfolding new_sheet find_pair find_right
@@ -122,32 +108,38 @@ module _ (kerf : ℕ) (s : GuillotineSheet) (i : Insertion) where
         apart = merge_rounds_done kerf (length (old ++ new)) (old ++ new) (omega arith);
       }
 
-  -- the answer `None`: the definition inserts nothing, and the words are as they were
-  pub inserts_nothing : (w v : List ℕ) → InsertsInto kerf s i w v None → (try_insert kerf s i ≡ none) × (v ≡ w)
+  -- the answer `None`: the definition inserts nothing, and the rectangles are as they were
+  pub inserts_nothing : (free after : List Rect) → InsertsInto kerf s i free after None → (try_insert kerf s i ≡ none) × (after ≡ free)
   unfolding try_insert
-  inserts_nothing w v t = (rw (← t.place), t.words ∙ rw (← t.place))
+  inserts_nothing free after t = (rw (← t.place), t.rects ∙ rw (← t.place))
 
--- the answer `Some`: the sheet that the definition makes, which the words then show, ready for the next
-pub record Placed (kerf : ℕ) (s : GuillotineSheet) (i : Insertion) (p : Place) (m : Bool) (w v : List ℕ) : Type 0 where
+pub untouched : (kerf : ℕ) (pattern : PatternDirection) (cut : CutInstance) (h : BaselineGuillotineHeuristic) (free after : List Rect)
+    → Inserts kerf pattern cut h free after None → after ≡ free
+unfolding shown
+untouched kerf pattern cut h free after t =
+    (inserts_nothing kerf (shown free pattern) (record { cut = cut; heuristic = h }) free after (t (shown free pattern) (record { rects = refl; grain = refl }))).1
+
+-- the answer `Some`: the sheet that the definition makes, which has the rectangles then, ready for the next
+pub record Placed (kerf : ℕ) (s : GuillotineSheet) (i : Insertion) (p : Place) (m : Bool) (after : List Rect) : Type 0 where
   pub is : try_insert kerf s i ≡ some (insert_at kerf s i p)
   pub best : best_place s i ≡ some p
   pub merged : m ≡ merges_any kerf (split_rects kerf s i p)
-  pub words : v ≡ with_rects (insert_at kerf s i p).free_rects w
-  pub shows : Shows v s.stock.pattern (insert_at kerf s i p)
-  pub ready : Ready kerf (rects_in v)
+  pub rects : after ≡ (insert_at kerf s i p).free_rects
+  pub shows : Shows after s.stock.pattern (insert_at kerf s i p)
+  pub ready : Ready kerf after
 
-pub inserts_at : (kerf : ℕ) (s : GuillotineSheet) (i : Insertion) (w v : List ℕ) (k : ℕ) (r : Rect) (f : FitResult) (m : Bool)
-    → InsertsInto kerf s i w v (Some (record { index = k; free_rect = r; fit = f; merged = m })) → Ready kerf s.free_rects → Placed kerf s i (place_at k r f) m w v
+pub inserts_at : (kerf : ℕ) (s : GuillotineSheet) (i : Insertion) (free after : List Rect) (k : ℕ) (r : Rect) (f : FitResult) (m : Bool)
+    → InsertsInto kerf s i free after (Some (record { index = k; free_rect = r; fit = f; merged = m })) → Ready kerf s.free_rects → Placed kerf s i (place_at k r f) m after
 unfolding try_insert insert_at
-inserts_at kerf s i w v k r f m t ready =
+inserts_at kerf s i free after k r f m t ready =
     let p = place_at k r f in
     let b : best_place s i ≡ some p = sym t.place in
-    let e : v ≡ with_rects (insert_at kerf s i p).free_rects w = t.words ∙ rw b in
+    let e : after ≡ (insert_at kerf s i p).free_rects = t.rects ∙ rw b in
     record {
       is = rw b;
       best = b;
       merged = some-injective _ _ (t.merged ∙ rw b);
-      words = e;
-      shows = rw e (shows_with (insert_at kerf s i p) w);
-      ready = rw (e, rects_with (insert_at kerf s i p).free_rects w) (insert_ready kerf s i p b ready);
+      rects = e;
+      shows = record { rects = sym e; grain = refl };
+      ready = rw e (insert_ready kerf s i p b ready);
     }

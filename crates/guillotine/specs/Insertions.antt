@@ -1,7 +1,7 @@
--- The insertion of a cut into a sheet whose free rectangles are in lent words.
-use Rattle.std.specs.Prelude.{ℕ, ◌+◌, ◌≤◌, ◌<◌, ◌≡◌, Bool, List, ◌++◌, length, get_or, take, drop, Option, Some, None}
+-- The insertion of a cut into a sheet, by its free rectangles.
+use Rattle.std.specs.Prelude.{ℕ, ◌≤◌, ◌<◌, ◌≡◌, Bool, List, ◌++◌, length, get_or, Option, Some, None}
 use Rattle.std.proofs.Math.Option as Defined
-use Rattle.lists.specs.Base.{◌>>=◌, is_some, any, swap_remove}
+use Rattle.lists.specs.Base.{◌>>=◌, swap_remove}
 use Rattle.lists.proofs.Perm.{All}
 use Rattle.model.specs.declared.PatternDirection.{PatternDirection}
 use Rattle.model.specs.declared.Direction.{Direction}
@@ -11,12 +11,12 @@ use Rattle.model.specs.declared.CutInstance.{CutInstance}
 use Rattle.model.specs.Types.{no_rect}
 use Rattle.model.specs.Refusal.{most_side}
 use Rattle.model.specs.Split.{split_free_rect}
-use Rattle.model.specs.Merge.{merge_adjacent_rects, first_pair, merge_free_rects, merges_any}
+use Rattle.model.specs.Merge.{first_pair, merge_free_rects, merges_any}
 use Rattle.model.specs.Sheet.{GuillotineSheet, Insertion, Place, best_place, split_rects, try_insert}
 use Rattle.split.specs.Bounds.{Small}
 use Rattle.guillotine.specs.declared.Inserted.{Inserted}
-use Rattle.rect_words.specs.SheetWords.{rects_in, with_rects, most_rects, block_words, Shows}
-use Rattle.best_place.specs.Places.{place_at}
+use Rattle.free_rects.specs.declared.TheConstants.{MOST_RECTS}
+use Rattle.best_place.specs.Places.{place_at, Shows}
 
 -- ---- what an insertion needs
 
@@ -26,11 +26,10 @@ pub record Ready (kerf : ℕ) (rects : List Rect) : Type 0 where
   pub small : All Small rects
   pub apart : first_pair kerf rects ≡ Defined.none
 
--- of the words: a whole block, with room for one rectangle more
-pub record Insertable (kerf : ℕ) (words : List ℕ) : Type 0 where
-  pub room : block_words ≤ length words
-  pub few : get_or words 0 0 < most_rects
-  pub ready : Ready kerf (rects_in words)
+-- with room for one rectangle more
+pub record Insertable (kerf : ℕ) (rects : List Rect) : Type 0 where
+  pub few : length rects < MOST_RECTS
+  pub ready : Ready kerf rects
 
 -- ---- the rectangle at the place gives way to the remainders
 
@@ -43,23 +42,12 @@ pub record At (rects : List Rect) (index : ℕ) (r : Rect) : Type 0 where
 unfoldable pub split_by : ℕ → ℕ → Rect → Rect → Direction → List Rect → List Rect
 split_by kerf index free placed direction rects = swap_remove no_rect index rects ++ split_free_rect direction kerf free placed
 
--- the words are those of the rectangles merged, and the flag says whether any did
-pub record Replaces (kerf : ℕ) (rects : List Rect) (before after : List ℕ) (merged : Bool) : Type 0 where
-  pub words : after ≡ with_rects (merge_free_rects kerf rects) before
-  pub any : merged ≡ merges_any kerf rects
+-- the rectangles merged, and whether any did
+pub record Replaces (kerf : ℕ) (free after : List Rect) (merged : Bool) : Type 0 where
+  pub rects : after ≡ merge_free_rects kerf free
+  pub any : merged ≡ merges_any kerf free
 
--- whether one of the rectangles merges with r; or with one of the new ones
-unfoldable pub touches : ℕ → Rect → List Rect → Bool
-touches kerf r rects = any (λ q. is_some (merge_adjacent_rects kerf q r)) rects
-
-unfoldable pub touches_any : ℕ → List Rect → List Rect → Bool
-touches_any kerf new rects = any (λ r. touches kerf r rects) new
-
--- all rectangles but the one at the index
-abbrev pub others : ℕ → List Rect → List Rect
-others index rects = take index rects ++ drop (index + 1) rects
-
--- ---- the answer, and the words afterwards
+-- ---- the answer, and the rectangles afterwards
 
 abbrev pub place_in : Option Inserted → Defined.Option Place
 place_in None = Defined.none
@@ -70,12 +58,12 @@ merged_in None = Defined.none
 merged_in (Some t) = Defined.some t.merged
 
 -- one insertion into one sheet
-pub record InsertsInto (kerf : ℕ) (s : GuillotineSheet) (i : Insertion) (before after : List ℕ) (r : Option Inserted) : Type 0 where
+pub record InsertsInto (kerf : ℕ) (s : GuillotineSheet) (i : Insertion) (before after : List Rect) (r : Option Inserted) : Type 0 where
   pub place : place_in r ≡ best_place s i
   pub merged : merged_in r ≡ (best_place s i >>= λ p. Defined.some (merges_any kerf (split_rects kerf s i p)))
-  pub words : after ≡ (elim (try_insert kerf s i) [ Defined.none ↦ before | Defined.some t ↦ with_rects t.free_rects before ])
+  pub rects : after ≡ (elim (try_insert kerf s i) [ Defined.none ↦ before | Defined.some t ↦ t.free_rects ])
 
--- the same into any sheet that the words show
-abbrev pub Inserts : ℕ → PatternDirection → CutInstance → BaselineGuillotineHeuristic → (before after : List ℕ) → Option Inserted → Type 0
+-- the same into any sheet that has the rectangles
+abbrev pub Inserts : ℕ → PatternDirection → CutInstance → BaselineGuillotineHeuristic → (before after : List Rect) → Option Inserted → Type 0
 Inserts kerf pattern cut h before after r =
     (s : GuillotineSheet) → Shows before pattern s → InsertsInto kerf s (record { cut = cut; heuristic = h }) before after r

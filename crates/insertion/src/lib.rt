@@ -3,25 +3,9 @@
 #![tactic(auto)]
 
 ghost use Rattle.std.specs.Prelude.{◌≡◌};
-ghost use Rattle.model.specs.Search.{heuristic_variants, default_heuristic};
-ghost use Rattle.guillotine.specs.Insertions.{Insertable};
-ghost use Rattle.insertion.specs.Attempt.{plain_cut, Attempt};
+ghost use Rattle.insertion.specs.Attempt.{plain_cut, Insertable, Attempt};
 
-use model::{
-    BaselineGuillotineHeuristic, CutInstance, GuillotineRectChoice, GuillotineSplitHeuristic,
-    PatternDirection, RotationPreference,
-};
-
-#[tactic(auto, unfolding(model::specs::Search::default_heuristic, model::specs::Search::heuristic_variants))]
-fn default_heuristic() -> BaselineGuillotineHeuristic
-    ensures { result ≡ default_heuristic heuristic_variants }
-{
-    BaselineGuillotineHeuristic {
-        rect_choice: GuillotineRectChoice::Area,
-        split: GuillotineSplitHeuristic::Horizontal,
-        rotation: RotationPreference::PreferUpright,
-    }
-}
+use model::{CutInstance, PatternDirection};
 
 fn plain_cut(width: u32, length: u32) -> CutInstance
     ensures { result ≡ plain_cut width length }
@@ -37,11 +21,20 @@ fn plain_cut(width: u32, length: u32) -> CutInstance
 }
 
 #[unsafe(no_mangle)]
+#[tactic(auto, using(crate::proofs::Attempts::rects_insertable))]
 pub extern "C" fn insertion_try_insert(sheet: &mut [u32], kerf_width: u32, width: u32, length: u32)
     requires { Insertable kerf_width sheet.old }
     ensures { Attempt kerf_width width length sheet.old sheet.new }
 {
     let cut = plain_cut(width, length);
-    let heuristic = default_heuristic();
-    guillotine::try_insert(sheet, kerf_width, PatternDirection::None, cut, heuristic);
+    let heuristic = seeds::default_heuristic(&seeds::heuristic_variants());
+    let mut free = rect_words::load(sheet);
+    guillotine::try_insert(
+        &mut free,
+        kerf_width,
+        PatternDirection::None,
+        cut,
+        heuristic,
+    );
+    rect_words::store(sheet, &free);
 }

@@ -1,2 +1,2 @@
--- The definitions that the contracts of the instance tables cite.
-pub mod Tables
+-- The definitions that the contracts of the instances cite.
+pub mod Instances

@@ -1,3 +1,4 @@
 pub mod Apart
 pub mod Scan
 pub mod Rounds
+pub mod Touching

@@ -1,6 +1,6 @@
 -- One merge: the pair that is found lies in the list, what it makes is small, and the list is shorter by one.
 use mathlib.Core.Path.{◌≡◌, refl, sym, ap, ◌∙◌, subst}
-use mathlib.Core.Bool.{Bool, true, false, ◌||◌}
+use mathlib.Core.Bool.{Bool, true, false, ◌||◌, true≢false}
 use mathlib.Core.Logic.{◌⊎◌, inl, inr}
 use mathlib.Core.List.{List}
 use mathlib.Core.Option.{Option, none, some}
@@ -8,7 +8,7 @@ use Prim.Native.Nat.{ℕ, zero, suc, ◌-◌, ◌<◌}
 use native.Mathlib.Omega.{arith}
 use lib.ListN.{length, take, get_or, set, length-set}
 use lib.Seq.{take-set-le, take-take}
-use Rattle.lists.specs.Base.{swap_remove}
+use Rattle.lists.specs.Base.{is_some, swap_remove}
 use Rattle.lists.proofs.Perm.{All, all_perm, perm_sym}
 use Rattle.lists.proofs.InPlace.{swap_remove_index}
 use Rattle.model.specs.declared.Rect.{Rect}
@@ -118,3 +118,16 @@ pub merged_all : (kerf : ℕ) (l m : List Rect) → first_pair kerf m ≡ none �
     → m ≡ merge_free_rects kerf l
 unfolding merge_free_rects
 merged_all kerf l m e same = sym (rounds_stop (length m) kerf m e) ∙ same
+
+-- without a pair that merges the rectangles stay
+none_merges : (kerf : ℕ) (l : List Rect) → merges_any kerf l ≡ false → first_pair kerf l ≡ none
+unfolding merges_any
+none_merges kerf l e = go (first_pair kerf l) refl e
+  where
+    go : (o : Option Pair) → first_pair kerf l ≡ o → is_some o ≡ false → first_pair kerf l ≡ none
+    go none f h = f
+    go (some p) f h = absurd (true≢false h)
+
+pub unmerged : (kerf : ℕ) (l : List Rect) → merges_any kerf l ≡ false → l ≡ merge_free_rects kerf l
+unfolding merge_free_rects
+unmerged kerf l e = sym (rounds_stop (length l) kerf l (none_merges kerf l e))

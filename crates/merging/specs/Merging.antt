@@ -1,9 +1,10 @@
 -- The answers of the scan for a pair, by the definition's values, and what a scan needs.
-use Rattle.std.specs.Prelude.{ℕ, ◌≤◌, ◌≡◌, List, take, Option, Some, None}
+use Rattle.std.specs.Prelude.{ℕ, ◌≤◌, ◌≡◌, Bool, List, take, Option, Some, None}
 use Rattle.std.proofs.Math.Option as Defined
 use Rattle.model.specs.declared.Rect.{Rect}
 use Rattle.model.specs.Refusal.{most_side}
-use Rattle.model.specs.Merge.{Pair, first_pair}
+use Rattle.model.specs.Merge.{Pair, merge_adjacent_rects, first_pair}
+use Rattle.lists.specs.Base.{is_some, any}
 use Rattle.merging.specs.declared.FoundPair.{FoundPair}
 use Rattle.split.specs.Bounds.{Small}
 use Rattle.lists.proofs.Perm.{All}
@@ -17,3 +18,7 @@ pub record Scannable (kerf : ℕ) (rects : List Rect) (fresh : ℕ) : Type 0 whe
   pub thin : kerf ≤ most_side
   pub small : All Small rects
   pub apart : first_pair kerf (take fresh rects) ≡ Defined.none
+
+-- whether one of the rectangles merges with r
+unfoldable pub touches : ℕ → Rect → List Rect → Bool
+touches kerf r rects = any (λ q. is_some (merge_adjacent_rects kerf q r)) rects

@@ -1,9 +1,12 @@
 // The merging of a sheet's free rectangles: `merge_free_rects`.
 #![tactic(auto)]
 
-ghost use Rattle.std.specs.Prelude.{◌≡◌};
+ghost use Rattle.std.specs.Prelude.{◌≡◌, ◌≤◌};
+ghost use Rattle.lists.proofs.Perm.{All};
+ghost use Rattle.model.specs.Refusal.{most_side};
+ghost use Rattle.split.specs.Bounds.{Small};
 ghost use Rattle.model.specs.Merge.{first_pair, merge_free_rects, merges_any};
-ghost use Rattle.merging.specs.Merging.{pair_of, Scannable};
+ghost use Rattle.merging.specs.Merging.{pair_of, Scannable, touches};
 
 use free_rects::FreeRects;
 use model::Rect;
@@ -43,6 +46,34 @@ fn find_pair(free: &[Rect], kerf_width: u32, fresh: usize) -> Option<FoundPair>
     found
 }
 
+// Whether one of the rectangles merges with this one.
+#[tactic(auto, using(crate::proofs::Touching::touch_hit, crate::proofs::Touching::touch_miss, crate::proofs::Touching::touch_end))]
+fn touches(free: &[Rect], rect: Rect, kerf_width: u32) -> bool
+    requires { All Small free.now × Small rect × (kerf_width ≤ most_side) }
+    ensures { result ≡ touches kerf_width rect free.now }
+{
+    for other in free {
+        if adjacent::merge_adjacent_rects(*other, rect, kerf_width).is_some() {
+            return true;
+        }
+    }
+    false
+}
+
+// Whether there is a pair that merges: each new rectangle is held against all before it. Most often there is none, and the scan for the first pair
+// in its place made a plan up to a sixth slower.
+fn merges(free: &[Rect], kerf_width: u32, fresh: usize) -> bool
+    requires { Scannable kerf_width free.now fresh }
+    ensures { result ≡ merges_any kerf_width free.now }
+{
+    for right in fresh..free.len() {
+        if touches(&free[..right], free[right], kerf_width) {
+            return true;
+        }
+    }
+    false
+}
+
 // Merges pairs until none is left, and says whether there was one. After each merge the scan starts again from the first pair;
 // left of the merged rectangle none merges.
 #[tactic(auto, using(crate::proofs::Rounds::left_within, crate::proofs::Rounds::flag_stop, crate::proofs::Rounds::merged_all))]
@@ -51,6 +82,9 @@ pub fn merge_free_rects(free: &mut FreeRects, kerf_width: u32, mut fresh: usize)
     ensures merged { free.new ≡ merge_free_rects kerf_width free.old }
     ensures any { result ≡ merges_any kerf_width free.old }
 {
+    if !merges(free.as_slice(), kerf_width, fresh) {
+        return false;
+    }
     let mut any = false;
     while let Some(pair) = find_pair(free.as_slice(), kerf_width, fresh) {
         free.set(pair.left, pair.merged);

@@ -2,8 +2,9 @@
 // src/domain, src/render and src/optimizer. What they mean together is said in specs/.
 #![tactic(auto)]
 
-#[derive(Clone, Copy, PartialEq, Eq)]
+#[derive(Clone, Copy, PartialEq, Eq, Default)]
 pub enum PatternDirection {
+    #[default]
     None,
     ParallelToWidth,
     ParallelToLength,
@@ -64,7 +65,7 @@ pub struct Rect {
     pub length: u32,
 }
 
-#[derive(Clone, Copy, PartialEq, Eq)]
+#[derive(Clone, Copy, PartialEq, Eq, Default)]
 pub struct StockInstance {
     pub stock_id: u64,
     pub instance: u32,
@@ -73,7 +74,7 @@ pub struct StockInstance {
     pub pattern: PatternDirection,
 }
 
-#[derive(Clone, Copy, PartialEq, Eq)]
+#[derive(Clone, Copy, PartialEq, Eq, Default)]
 pub struct CutInstance {
     pub cut_id: u64,
     pub instance: u32,
@@ -95,11 +96,4 @@ pub struct FitResult {
     pub rect: Rect,
     pub pattern: PatternDirection,
     pub rotated: bool,
-}
-
-// An order of the cuts, each by its place in the catalogue, and the heuristic that places them.
-#[derive(Drop)]
-pub struct CandidateSeed {
-    pub cut_order: [u32; 64],
-    pub heuristic: BaselineGuillotineHeuristic,
 }

@@ -4,7 +4,7 @@
 ghost use Rattle.std.specs.Prelude.{◌≡◌, ◌+◌, ◌*◌, ◌/◌, ◌%◌, ◌^◌, ◌≤◌, length, take, drop};
 ghost use Rattle.model.specs.Project.{number};
 
-// A u64 in two words, low then high.
+// A u64 in two words of a plan, low then high: which half a word is no conversion of the library's says.
 pub fn joined(low: u32, high: u32) -> u64
     ensures { result ≡ low + 2 ^ 32 * high }
 {
@@ -23,6 +23,7 @@ pub fn high_word(number: u64) -> u32
     (number >> 32) as u32
 }
 
+// A number's place is a number beside the bytes, as the file's format gives it.
 fn bytes_at<const N: usize>(file: &[u8], at: usize) -> [u8; N]
     requires { at + N ≤ length file.now }
     ensures { result ≡ take N (drop at file.now) }

@@ -2,13 +2,14 @@
 use Prim.Native.Nat.{ℕ, ◌≤◌}
 use mathlib.Core.Path.{◌≡◌, refl, sym, ap, ◌∙◌, subst}
 use mathlib.Core.Bool.{Bool, true, false, true≢false, ◌||◌}
-use lib.Dec.{ltb}
-use borrow.Author.Tests.{ltb-false}
+use lib.Dec.{ltb, eqb}
+use borrow.Author.Tests.{ltb-false, eqb-true, eqb-false}
 use mathlib.Core.List.{List, [], ◌++◌}
 use mathlib.Core.Option.{none, some}
 use lib.ListN.{length, drop, replicate}
 use lib.Seq.{drop-drop}
 use Rattle.lists.specs.Base.{is_empty}
+use Rattle.lists.proofs.Arrays.{length_zero, not_empty}
 use Rattle.model.specs.declared.BaselineGuillotineHeuristic.{BaselineGuillotineHeuristic}
 use Rattle.model.specs.declared.LayoutKind.{LayoutKind}
 use Rattle.model.specs.Types.{layout_of, effort_of}
@@ -137,6 +138,14 @@ module _ (f w p : List ℕ) (h : least_workspace ≤ length w) (k : least_plan �
           → drop least_workspace v ≡ drop least_workspace w → Promise f w p (number_of r) (cleared least_workspace v) p'
       end_search (Ok t) p' v e u = subst (λ (x : List ℕ). Promise f w p 0 (cleared least_workspace v) x) (sym e.ends.2) (end_planned e.ends.0 v e.ends.1 u)
       end_search (Err r) p' v e u = subst (λ (x : List ℕ). Promise f w p (refusal_number r) (cleared least_workspace v) x) (sym e.ends.1) (end_refused (refusal_number r) v e.ends.0 u)
+
+-- ---- whether there are cuts
+
+pub none_left : {A : Type 0} {items cuts : List A} → items ≡ cuts → eqb (length items) 0 ≡ true → cuts ≡ []
+none_left {items = items} e f = sym e ∙ length_zero items (eqb-true (length items) 0 f)
+
+pub some_left : {A : Type 0} {items cuts : List A} → items ≡ cuts → eqb (length items) 0 ≡ false → is_empty cuts ≡ false
+some_left {items = items} e f = ap is_empty (sym e) ∙ not_empty items (eqb-false (length items) 0 f)
 
 -- ---- the search
 

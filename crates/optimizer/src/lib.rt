@@ -6,27 +6,22 @@ ghost use Rattle.std.specs.Prelude.{◌≡◌, ◌≤◌, length};
 ghost use Rattle.std.proofs.Math.Option.{none};
 ghost use Rattle.model.specs.Types.{effort_of};
 ghost use Rattle.model.specs.Project.{project_of};
-ghost use Rattle.model.specs.Refusal.{file_refusal};
 ghost use Rattle.model.specs.Expand.{expand_project};
 ghost use Rattle.model.specs.Answer.{prefilter};
 ghost use Rattle.model.specs.Outcome.{least_workspace, least_plan, too_small, cleared};
-ghost use Rattle.rows.specs.Rows.{cut_words, cut_row};
-ghost use Rattle.instances.specs.Tables.{Holds};
-ghost use Rattle.candidate.specs.Stands.{instance_in, Tables};
 ghost use Rattle.optimizer.specs.Promise.{number_of, Searches, Promise};
 
-use candidate::Instance;
-use instances::CutTable;
-use model::OptimizerEffort;
+use free_rects::FreeRects;
+use model::{CutInstance, OptimizerEffort};
+use problem::ProblemInstance;
 use project::Refusal;
+use refusals::CheckedFile;
 
-// The least lent memory, in words.
+// The least lent memory, in words. C lends both as slices of any length, beside each other and beside the file, so that they are long enough is a
+// clause of what is behind the test.
 const WORKSPACE: usize = 16_384;
 
 const PLAN: usize = 4_500;
-
-// The words of every board's free rectangles, 261 for each of 64.
-const FREE: usize = 16_704;
 
 #[tactic(auto, unfolding(model::specs::Outcome::too_small))]
 fn is_too_small(workspace: &[u32], plan: &[u32]) -> bool
@@ -47,21 +42,19 @@ fn clear(workspace: &mut [u32])
 fn find_plan(
     workspace: &mut [u32],
     plan: &mut [u32],
-    stock: &[u32],
-    cuts: &[u32],
-    inst: Instance,
+    inst: &ProblemInstance<'_>,
     effort: OptimizerEffort,
 ) -> Result<(), Refusal>
-    requires { Tables stock.now cuts.now inst × (least_workspace ≤ length workspace.old) × (least_plan ≤ length plan.old) × (prefilter (instance_in stock.now cuts.now inst) ≡ none) }
-    ensures { Searches (instance_in stock.now cuts.now inst) effort result plan.old plan.new workspace.old workspace.new }
+    requires { (least_workspace ≤ length workspace.old) × (least_plan ≤ length plan.old) × (prefilter inst.now ≡ none) }
+    ensures { Searches inst.now effort result plan.old plan.new workspace.old workspace.new }
 {
-    let mut free = [0u32; FREE];
+    let mut free = std::array::from_fn(|_| FreeRects::new());
     let rows = seeds::heuristic_variants();
     let numbers = seeds::search_numbers(effort);
-    match search::winner(workspace, &mut free, stock, cuts, inst, &rows, numbers) {
+    match search::winner(workspace, &mut free, inst, &rows, numbers) {
         None => Err(Refusal::NoCandidate),
         Some(c) => {
-            plan::write_plan(plan, stock, cuts, inst, c);
+            plan::write_plan(plan, inst, &c);
             Ok(())
         }
     }
@@ -71,53 +64,50 @@ fn find_plan(
 fn search_plan(
     workspace: &mut [u32],
     plan: &mut [u32],
-    stock: &[u32],
-    cuts: &[u32],
-    inst: Instance,
+    inst: &ProblemInstance<'_>,
     effort: OptimizerEffort,
 ) -> Result<(), Refusal>
-    requires { Tables stock.now cuts.now inst × (least_workspace ≤ length workspace.old) × (least_plan ≤ length plan.old) }
-    ensures { Searches (instance_in stock.now cuts.now inst) effort result plan.old plan.new workspace.old workspace.new }
+    requires { (least_workspace ≤ length workspace.old) × (least_plan ≤ length plan.old) }
+    ensures { Searches inst.now effort result plan.old plan.new workspace.old workspace.new }
 {
-    prefilter::basic_feasibility_prefilter(stock, cuts, inst)?;
-    find_plan(workspace, plan, stock, cuts, inst, effort)
+    prefilter::basic_feasibility_prefilter(inst)?;
+    find_plan(workspace, plan, inst, effort)
 }
 
-// A project that no check refuses, with the table of its cuts.
+// A project that no check refuses, with its cuts.
 fn optimize_cuts(
-    file: &[u8],
+    file: &CheckedFile<'_>,
     workspace: &mut [u32],
     plan: &mut [u32],
-    cut_table: CutTable,
+    cuts: &[CutInstance],
 ) -> Result<(), Refusal>
-    requires { (file_refusal file.now ≡ none) × (least_workspace ≤ length workspace.old) × (least_plan ≤ length plan.old)
-        × Holds cut_words cut_row (expand_project (project_of file.now)).cuts cut_table.words cut_table.count }
+    requires { (least_workspace ≤ length workspace.old) × (least_plan ≤ length plan.old)
+        × (cuts.now ≡ (expand_project (project_of file.now)).cuts) }
     ensures { Searches (expand_project (project_of file.now)) (effort_of (project_of file.now).effort) result plan.old plan.new workspace.old workspace.new }
 {
-    let stock_table = instances::stock_table(file);
-    let inst = Instance {
-        kerf_width: project::kerf_width(file),
-        stock: stock_table.count,
-        cuts: cut_table.count,
-    };
-    let effort = project::effort(file);
-    let stock = stock_table.words;
-    let cuts = cut_table.words;
-    search_plan(workspace, plan, &stock, &cuts, inst, effort)
+    let project = file.project();
+    let stock = instances::stock_instances(file);
+    let inst = ProblemInstance::new(stock.as_slice(), cuts, project.kerf_width());
+    search_plan(workspace, plan, &inst, project.effort())
 }
 
 // A project that no check refuses.
-fn optimize_project(file: &[u8], workspace: &mut [u32], plan: &mut [u32]) -> Result<(), Refusal>
-    requires { (file_refusal file.now ≡ none) × (least_workspace ≤ length workspace.old) × (least_plan ≤ length plan.old) }
+fn optimize_project(
+    file: &CheckedFile<'_>,
+    workspace: &mut [u32],
+    plan: &mut [u32],
+) -> Result<(), Refusal>
+    requires { (least_workspace ≤ length workspace.old) × (least_plan ≤ length plan.old) }
     ensures { Promise file.now workspace.old plan.old (number_of result) workspace.new plan.new }
 {
-    let cut_table = instances::cut_table(file);
-    if cut_table.count == 0 {
-        let layout = project::layout_kind(file);
+    let project = file.project();
+    let cuts = instances::cut_instances(file);
+    if cuts.is_empty() {
+        let layout = project.layout_kind();
         plan::empty_plan(plan, layout);
         return Ok(());
     }
-    let answer = optimize_cuts(file, workspace, plan, cut_table);
+    let answer = optimize_cuts(file, workspace, plan, cuts.as_slice());
     clear(workspace);
     answer
 }
@@ -129,8 +119,8 @@ pub fn optimize(file: &[u8], workspace: &mut [u32], plan: &mut [u32]) -> Result<
     if is_too_small(workspace, plan) {
         return Err(Refusal::TooSmallMemory);
     }
-    refusals::check_project(file)?;
-    optimize_project(file, workspace, plan)
+    let project = refusals::check_project(file)?;
+    optimize_project(&project, workspace, plan)
 }
 
 // The same for callers that take a number: 0 for a plan. The crate optimizer_c exports it to C and Rust.

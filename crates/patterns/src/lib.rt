@@ -35,7 +35,7 @@ fn turning_matters(cut: CutInstance) -> bool
     cut.width != cut.length || rotate_pattern(cut.pattern) != cut.pattern
 }
 
-// The ways to lie that the patterns and the cut leave open on a board, whatever the free rectangle.
+// The ways to lie that the patterns and the cut leave open on a board, whatever the free rectangle: both, either or none, so two flags.
 #[derive(Clone, Copy)]
 pub struct Ways {
     pub upright: bool,

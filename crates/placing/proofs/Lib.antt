@@ -1,7 +1,5 @@
 -- Laws that belong to no one function.
-pub mod BlockLaws
 pub mod OnBoard
-pub mod Written
 pub mod Tries
 pub mod Rebuilt
 pub mod NextCut

@@ -1,5 +1,5 @@
 -- What a rebuilt sheet has: its board, free rectangles ready for the next insertion, and no more of them than insertions and one.
-use Prim.Native.Nat.{ℕ, ◌+◌, ◌≤◌}
+use Prim.Native.Nat.{ℕ, ◌+◌, ◌≤◌, ◌<◌}
 use native.Mathlib.Nat.{le_refl}
 use native.Mathlib.Omega.{arith}
 use mathlib.Core.Path.{◌≡◌, ap}
@@ -10,7 +10,7 @@ use lib.ListN.{length}
 use Rattle.lists.proofs.Sums.{length-map}
 use Rattle.lists.proofs.Kept.{length_retain}
 use Rattle.lists.proofs.Options.{fold_keeps}
-use Rattle.lists.proofs.Every.{all_any}
+use Rattle.lists.proofs.Every.{all_any, all_get}
 use Rattle.model.specs.declared.StockInstance.{StockInstance}
 use Rattle.model.specs.Refusal.{most_side}
 use Rattle.model.specs.Sheet.{GuillotineSheet, Insertion, new_sheet, try_insert, rebuild, making_of}
@@ -18,7 +18,8 @@ use Rattle.model.specs.Expand.{ProblemInstance}
 use Rattle.trust.proofs.Sheet.{Inserted, all_inserted}
 use Rattle.trust.proofs.Sizes.{FreeCount, insert_free}
 use Rattle.trust.proofs.Placing.{at_place, at_best}
-use Rattle.trust.proofs.Ranges.{BoardRange}
+use Rattle.trust.proofs.Ranges.{BoardRange, Ranged}
+use Rattle.problem.specs.Problem.{board_in}
 use Rattle.guillotine.specs.Insertions.{Ready}
 use Rattle.guillotine.proofs.Sheets.{insert_ready, new_ready}
 use Rattle.candidate.specs.Entries.{board_of, on_board}
@@ -48,7 +49,11 @@ module _ (kerf : ℕ) (stock : StockInstance) (is : List Insertion) (t : Guillot
       let free = rebuilt_keeps FreeCount (λ s i u f h. at_place FreeCount kerf s i u (λ p g. insert_free kerf s i p g h) f) (le_refl 1) in
       omega (arith, free, ap length all_in.grown, length-map (λ p. p.by) t.placed_pieces)
 
--- ---- a making in words
+-- ---- a board and a making in words
+
+pub board_ranged : (inst : ProblemInstance) → Ranged inst → (b : ℕ) → b < length inst.stock → BoardRange (board_in inst b)
+unfolding board_in
+board_ranged inst r b known = all_get BoardRange inst.stock b _ r.boards known
 
 pub making_length : (inst : ProblemInstance) (words : List ℕ) (b : ℕ) → length (making_in inst words b) ≤ length words
 unfolding making_in on_board

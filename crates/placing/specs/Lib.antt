@@ -1,5 +1,5 @@
 -- The definitions that the contracts of placing cite.
-pub mod Blocks
+pub mod Bins
 pub mod Fitting
 pub mod Placing
 pub mod Rebuilding

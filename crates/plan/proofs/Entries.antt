@@ -1,11 +1,11 @@
 -- One sheet more in the plan: its entry behind the others', its body behind the others', its areas noted.
-use Prim.Native.Nat.{ℕ, suc, ◌+◌, ◌-◌, ◌*◌, ◌≤◌, ◌<◌}
-use native.Mathlib.Numerals.{add-one}
+use Prim.Native.Nat.{ℕ, ◌+◌, ◌-◌, ◌*◌, ◌≤◌}
+use native.Mathlib.Nat.{add-zero}
 use native.Mathlib.Omega.{arith}
 use mathlib.Core.Path.{◌≡◌, refl, sym, ap, ap₂, ◌∙◌}
 use mathlib.Core.List.{List, [], ◌∷◌, ◌++◌, map, append-nil}
-use lib.ListN.{length, set, take, length-append}
-use lib.Seq.{take-suc-set}
+use borrow.Rule.Slice.PartMut.{put_mid}
+use lib.ListN.{length, take, drop, length-append}
 use Rattle.lists.specs.Base.{concat_map}
 use Rattle.lists.specs.Parts.{patch}
 use Rattle.lists.proofs.Sums.{length-map, map_append}
@@ -18,6 +18,7 @@ use Rattle.fitness.specs.declared.SheetAreas.{SheetAreas}
 use Rattle.fitness.specs.Areas.{areas_of}
 use Rattle.sheet_plan.specs.declared.Body.{Body}
 use Rattle.sheet_plan.specs.Replaying.{WritesSheet}
+use Rattle.sheet_plan.proofs.Parts.{patch_behind}
 use Rattle.plan.specs.Sheets.{bodies_of, WritesFrom}
 use Rattle.plan.proofs.Swaps.{patch_swap}
 
@@ -35,31 +36,24 @@ module _ (sheets : List GuillotineSheet) (s : GuillotineSheet) where
   unfolding contents_from
   contents_more start = ap (contents_from start) (map_append sheet_words sheets (s ∷ [])) ∙ contents_append start (map sheet_words sheets) (sheet_words s ∷ [])
 
--- a number noted behind the others
-noted : {A : Type 0} (f : GuillotineSheet → A) (sheets : List GuillotineSheet) (s : GuillotineSheet) (l : List A) (v : A) → length sheets < length l → v ≡ f s
-    → take (length sheets) l ≡ map f sheets → take (length (sheets ++ (s ∷ []))) (set l (length sheets) v) ≡ map f (sheets ++ (s ∷ []))
-noted {A} f sheets s l v h e k =
-    let more : length (sheets ++ (s ∷ [])) ≡ suc (length sheets) = length-append sheets (s ∷ []) ∙ add-one (length sheets) in
-    ap (λ (m : ℕ). take m (set l (length sheets) v)) more
-    ∙ take-suc-set l (length sheets) v h
-    ∙ ap₂ (λ (r : List A) (x : A). r ++ (x ∷ [])) k e
-    ∙ sym (map_append f sheets (s ∷ []))
-
 -- ---- the turns of the loop
 
 module _ (start : ℕ) (before : List ℕ) where
-  pub writes_none : (areas : List SheetAreas) → WritesFrom start [] before before start areas
+  pub writes_none : WritesFrom start [] before before start []
   unfolding contents_from concat_map
-  writes_none areas =
+  writes_none =
       record {
         words = patch_nil before 4 ∙ patch_nil (patch before 4 []) start;
         ends = omega arith;
         noted = refl;
       }
 
-  module _ (sheets : List GuillotineSheet) (s : GuillotineSheet) (plan plan₁ : List ℕ) (end : ℕ) (areas : List SheetAreas) (b : Body)
-      (so : WritesFrom start sheets before plan end areas) (body : WritesSheet s end plan plan₁ b)
-      (room : 4 + 2 * length sheets + 2 ≤ start) (fits : b.end ≤ length before) where
+  module _ (sheets : List GuillotineSheet) (s : GuillotineSheet) (plan part : List ℕ) (at : ℕ) (areas : List SheetAreas) (b : Body)
+      (so : WritesFrom start sheets before plan at areas) (body : WritesSheet s (take (length plan - at) (drop at plan)) part b)
+      (room : 4 + 2 * length sheets + 2 ≤ start) (fits : at + b.size ≤ length before) where
+    abbrev with_part : List ℕ
+    with_part = put_mid at (length plan - at) plan part
+
     abbrev entries : List ℕ
     entries = contents_from start (map sheet_words sheets)
 
@@ -67,34 +61,33 @@ module _ (start : ℕ) (before : List ℕ) where
     entries_length = omega (arith, contents_length start (map sheet_words sheets), length-map sheet_words sheets)
 
     reach : start + length (bodies_of sheets) + length (sheet_words s) ≤ length before
-    reach = omega (arith, so.ends, body.end)
+    reach = omega (arith, so.ends, body.size)
 
     with_entries : length (patch before 4 entries) ≡ length before
     with_entries = length_patch before 4 entries (omega (arith, entries_length, reach))
 
-    with_body : plan₁ ≡ patch (patch before 4 entries) start (bodies_of (sheets ++ (s ∷ [])))
+    with_body : with_part ≡ patch (patch before 4 entries) start (bodies_of (sheets ++ (s ∷ [])))
     with_body =
-        body.words
-        ∙ ap (λ (l : List ℕ). patch l end (sheet_words s)) so.words
-        ∙ patch_append (patch before 4 entries) start (bodies_of sheets) (sheet_words s) end so.ends (omega (arith, with_entries, reach))
+        patch_behind plan at 0 (sheet_words s) part body.words
+        ∙ ap₂ (λ (l : List ℕ) (m : ℕ). patch l m (sheet_words s)) so.words (add-zero at)
+        ∙ patch_append (patch before 4 entries) start (bodies_of sheets) (sheet_words s) at so.ends (omega (arith, with_entries, reach))
         ∙ ap (patch (patch before 4 entries) start) (sym (bodies_more sheets s))
 
-    pub writes_more : (plan₂ : List ℕ) → plan₂ ≡ patch plan₁ (4 + 2 * length sheets) (end ∷ (b.end - end) ∷ []) → length sheets < length areas
-        → WritesFrom start (sheets ++ (s ∷ [])) before plan₂ b.end (set areas (length sheets) b.areas)
-    writes_more plan₂ e a =
-        let entry : List ℕ = end ∷ (b.end - end) ∷ [] in
-        let size : b.end - end ≡ length (sheet_words s) = omega (arith, body.end) in
+    pub writes_more : (plan₂ : List ℕ) → plan₂ ≡ patch with_part (4 + 2 * length sheets) (at ∷ b.size ∷ [])
+        → WritesFrom start (sheets ++ (s ∷ [])) before plan₂ (at + b.size) (areas ++ (b.areas ∷ []))
+    writes_more plan₂ e =
+        let entry : List ℕ = at ∷ b.size ∷ [] in
         let bodies : length (bodies_of (sheets ++ (s ∷ []))) ≡ length (bodies_of sheets) + length (sheet_words s) = ap length (bodies_more sheets s) ∙ length-append (bodies_of sheets) (sheet_words s) in
-        let at : 4 + 2 * length sheets ≡ 4 + length entries = omega (arith, entries_length) in
+        let behind : 4 + 2 * length sheets ≡ 4 + length entries = omega (arith, entries_length) in
         let same : entries ++ entry ≡ contents_from start (map sheet_words (sheets ++ (s ∷ []))) =
-        ap₂ (λ (m n : ℕ). entries ++ (m ∷ n ∷ [])) so.ends size ∙ sym (contents_more sheets s start)
+        ap₂ (λ (m n : ℕ). entries ++ (m ∷ n ∷ [])) so.ends body.size ∙ sym (contents_more sheets s start)
         in
         record {
           words =
               e
               ∙ ap (λ (l : List ℕ). patch l (4 + 2 * length sheets) entry) with_body
               ∙ patch_swap (patch before 4 entries) start (4 + 2 * length sheets) (bodies_of (sheets ++ (s ∷ []))) entry room (omega (arith, with_entries, reach))
-              ∙ ap (λ (l : List ℕ). patch l start (bodies_of (sheets ++ (s ∷ [])))) (patch_append before 4 entries entry (4 + 2 * length sheets) at (omega (arith, entries_length, reach)) ∙ ap (patch before 4) same);
-          ends = omega (arith, body.end, so.ends);
-          noted = noted areas_of sheets s areas b.areas a body.areas so.noted;
+              ∙ ap (λ (l : List ℕ). patch l start (bodies_of (sheets ++ (s ∷ [])))) (patch_append before 4 entries entry (4 + 2 * length sheets) behind (omega (arith, entries_length, reach)) ∙ ap (patch before 4) same);
+          ends = omega (arith, body.size, so.ends);
+          noted = ap₂ (λ (l : List SheetAreas) (x : SheetAreas). l ++ (x ∷ [])) so.noted body.areas ∙ sym (map_append areas_of sheets (s ∷ []));
         }

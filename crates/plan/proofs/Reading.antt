@@ -1,13 +1,19 @@
 -- One sheet's part of a plan: where it is, and where there is none.
-use Rattle.std.specs.Prelude.{if◌then◌else◌}
+use Rattle.std.specs.Prelude.{if◌then◌else◌, Option, Some, None, option_map, unwrap_or}
+use Rattle.std.proofs.Common.{Bor, inl, inr}
+use Rattle.std.specs.Slice.{IsGetRangeResult}
+use Rattle.std.proofs.Math.Logic.{◌⊎◌}
 use Prim.Native.Nat.{ℕ, ◌+◌, ◌≤◌, ◌<◌}
-use mathlib.Core.Path.{◌≡◌, refl}
+use native.Mathlib.Nat.{add-sub_cancel_left}
+use native.Mathlib.Omega.{arith}
+use mathlib.Core.Path.{◌≡◌, refl, sym, ap, ◌∙◌}
 use mathlib.Core.Bool.{Bool, true, false, ◌&&◌}
 use mathlib.Core.List.{List, []}
 use lib.Dec.{leb, ltb}
 use lib.ListN.{length, get_or, take, drop}
 use borrow.Author.Tests.{leb-true, ltb-true}
 use Rattle.model.specs.Plan.{entry_of, part_of, sheet_part}
+use Rattle.trust.proofs.RoundTrip.{part_there}
 
 module _ (p : List ℕ) (k : ℕ) where
   abbrev start : ℕ
@@ -28,3 +34,14 @@ module _ (p : List ℕ) (k : ℕ) where
       go true true false d x y z w = refl
       go true false c d x y z w = refl
       go false b c d x y z w = refl
+
+  -- what the slice answers for the part
+  pub part_found : (from n : ℕ) → from ≡ start → n ≡ size → k < get_or p 0 0 → entry_of k + 2 ≤ length p → (r : Option (Bor (List ℕ))) → IsGetRangeResult p from (from + n) r
+      → unwrap_or (option_map (λ part. part.now) r) [] ≡ sheet_part p k
+  part_found from n e f inside entry None got = sym (sheet_none (λ a b c fits. of_sum got.0 (omega arith)))
+    where
+      of_sum : (from + n < from) ⊎ (length p < from + n) → from + n ≤ length p → ⊥
+      of_sum (inl h) k = omega arith
+      of_sum (inr h) k = omega arith
+  part_found from n e f inside entry (Some part) got =
+      got.0.2 ∙ ap (λ (m : ℕ). take m (drop from p)) (add-sub_cancel_left from n) ∙ rw (e, f) (sym (part_there p k (omega arith) inside entry (omega (arith, got.0.1))))

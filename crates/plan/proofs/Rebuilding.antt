@@ -3,7 +3,7 @@ use Prim.Native.Nat.{ℕ, ◌^◌, ◌≤◌, ◌<◌}
 use native.Mathlib.Omega.{arith}
 use mathlib.Core.Path.{◌≡◌, ◌∙◌}
 use mathlib.Core.List.{List, [], ◌∷◌, ◌++◌, map}
-use lib.ListN.{length, get_or, take, length-take}
+use lib.ListN.{length, get_or, take}
 use lib.Seq.{get_or-take}
 use lib.Ieee.{Float}
 use Rattle.lists.proofs.Perm.{All, perm_sym, all_left, all_perm, all_map}
@@ -57,7 +57,7 @@ module _ (inst : ProblemInstance) (r : Ranged inst) (k : Words) (st : Stands ins
     pub rebuildable : Rebuildable inst (placed_words k) board
     rebuildable =
         record {
-          few = omega (arith, length-take k.placed k.insertions, few_placed inst [] k st r);
+          few = omega (arith, few_placed inst [] k st r);
           known = board_known;
           cuts = below_cuts (placed_words k) (all_left (λ c. c < length inst.cuts) (map cut_of (placed_words k)) (unused_numbers k ++ [])
               (all_perm (λ c. c < length inst.cuts) (perm_sym st.cuts) (range_below (length inst.cuts))));

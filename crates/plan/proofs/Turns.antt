@@ -2,10 +2,11 @@
 use Prim.Native.Nat.{ℕ, ◌+◌, ◌-◌, ◌*◌, ◌/◌, ◌%◌, ◌^◌, ◌≤◌, ◌<◌}
 use native.Mathlib.Numerals.{add-one}
 use native.Mathlib.Omega.{arith}
-use mathlib.Core.Path.{◌≡◌, sym, ap, ◌∙◌, subst}
+use mathlib.Core.Path.{◌≡◌, sym, ap, ◌∙◌}
 use mathlib.Core.List.{List, [], ◌∷◌, ◌++◌, map}
 use mathlib.Core.Option
-use lib.ListN.{length, get_or, set, take, drop, length-append, take-append-drop}
+use borrow.Rule.Slice.PartMut.{put_mid}
+use lib.ListN.{length, get_or, take, drop, length-append, take-append-drop}
 use lib.Seq.{length-take-le, take-length, get_or-take}
 use lib.Ieee.{Float, binary64, to_bits}
 use Rattle.lists.specs.Base.{concat_map}
@@ -20,7 +21,7 @@ use Rattle.model.specs.Plan.{sheet_words}
 use Rattle.trust.proofs.Ranges.{Ranged}
 use Rattle.trust.proofs.PlanSize.{body_words, plan_length}
 use Rattle.fitness.specs.declared.SheetAreas.{SheetAreas}
-use Rattle.fitness.specs.Areas.{areas_of, board_areas, fitness_of, Inside}
+use Rattle.fitness.specs.Areas.{board_areas, fitness_of, Inside}
 use Rattle.candidate.specs.declared.Candidate.{Candidate as Words}
 use Rattle.candidate.specs.Stands.{Stands, bin_in, sheet_boards, placed_words, candidate_in}
 use Rattle.candidate.proofs.Standing.{length_sheets}
@@ -77,13 +78,13 @@ module _ (inst : ProblemInstance) (r : Ranged inst) (k : Words) (st : Stands ins
             length-append (bodies_of (take j bins)) (sheet_words next),
           )
 
-      pub turn : (plan₁ plan₂ : List ℕ) (b : Body) → WritesSheet next at plan plan₁ b → plan₂ ≡ patch plan₁ (4 + 2 * j) (at ∷ (b.end - at) ∷ []) → j < length areas
-          → WritesFrom (4 + 2 * k.sheets) (take (j + 1) bins) before plan₂ b.end (set areas j b.areas)
-      turn plan₁ plan₂ b body e a =
+      pub turn : (part plan₁ : List ℕ) (b : Body) → WritesSheet next (take (length plan - at) (drop at plan)) part b
+          → plan₁ ≡ patch (put_mid at (length plan - at) plan part) (4 + 2 * j) (at ∷ b.size ∷ [])
+          → WritesFrom (4 + 2 * k.sheets) (take (j + 1) bins) before plan₁ (at + b.size) (areas ++ (b.areas ∷ []))
+      turn part plan₁ b body e =
           rw one_more
-          (subst (λ (m : ℕ). WritesFrom (4 + 2 * k.sheets) (take j bins ++ (next ∷ [])) before plan₂ b.end (set areas m b.areas)) first_count
-          (writes_more (4 + 2 * k.sheets) before (take j bins) next plan plan₁ at areas b so body (omega (arith, first_count)) (omega (arith, body.end, ahead)) plan₂
-          (e ∙ ap (λ (m : ℕ). patch plan₁ (4 + 2 * m) (at ∷ (b.end - at) ∷ [])) (sym first_count)) (omega (arith, first_count))))
+          (writes_more (4 + 2 * k.sheets) before (take j bins) next plan part at areas b so body (omega (arith, first_count)) (omega (arith, body.size, ahead)) plan₁
+          (e ∙ ap (λ (m : ℕ). patch (put_mid at (length plan - at) plan part) (4 + 2 * m) (at ∷ b.size ∷ [])) (sym first_count)))
 
   pub all_written : (before plan : List ℕ) (at : ℕ) (areas : List SheetAreas) (j : ℕ) → j ≡ k.sheets → WritesFrom (4 + 2 * k.sheets) (take j bins) before plan at areas
       → WritesFrom (4 + 2 * length bins) bins before plan at areas
@@ -95,17 +96,14 @@ module _ (inst : ProblemInstance) (r : Ranged inst) (k : Words) (st : Stands ins
   -- ---- the whole plan
 
   module _ (before plan : List ℕ) (b : Bodies) (so : WritesSheets bins before plan b) where
-    areas_noted : take k.sheets b.areas ≡ map areas_of bins
-    areas_noted = ap (λ (m : ℕ). take m b.areas) (sym (bins_length inst r k st)) ∙ so.noted
+    pub areas_held : (board_areas b.areas.items ≤ 2 ^ 53) × Inside b.areas.items
+    areas_held = (rw so.noted (areas_most inst r k st), rw so.noted (inside inst r k st))
 
-    pub areas_held : (board_areas (take k.sheets b.areas) ≤ 2 ^ 53) × Inside (take k.sheets b.areas)
-    areas_held = (rw areas_noted (areas_most inst r k st), rw areas_noted (inside inst r k st))
-
-    pub plan_written : (plan₁ : List ℕ) (bits low high : ℕ) → bits ≡ to_bits binary64 (Option.get_or (fitness_of (take k.sheets b.areas)) positive_zero)
+    pub plan_written : (plan₁ : List ℕ) (bits low high : ℕ) → bits ≡ to_bits binary64 (Option.get_or (fitness_of b.areas.items) positive_zero)
         → low ≡ bits % 2 ^ 32 → high ≡ bits / 2 ^ 32 → plan₁ ≡ patch plan 0 (k.sheets ∷ low ∷ high ∷ 0 ∷ []) → 4500 ≤ length before
         → Plans (candidate_plan (candidate_in inst k)) before plan₁ b.end
     plan_written plan₁ bits low high e l h w room =
         let f : Float = Option.get_or (fitness bins) positive_zero in
-        let bits_are : bits ≡ to_bits binary64 f = e ∙ ap (to_bits binary64) (noted_fitness bins (4 + 2 * length bins) b.end before plan b.areas k.sheets (sym (bins_length inst r k st)) so) in
-        written LayoutKind.Guillotine f bins before plan plan₁ b.end b.areas k.sheets bits low high so (sym (bins_length inst r k st)) bits_are l h w
+        let bits_are : bits ≡ to_bits binary64 f = e ∙ ap (to_bits binary64) (noted_fitness bins (4 + 2 * length bins) b.end before plan b.areas.items so) in
+        written LayoutKind.Guillotine f bins before plan plan₁ b.end b.areas.items k.sheets bits low high so (sym (bins_length inst r k st)) bits_are l h w
         (omega (arith, plan_fits inst r k st LayoutKind.Guillotine f))

@@ -4,7 +4,7 @@ use native.Mathlib.Omega.{arith}
 use mathlib.Core.Path.{◌≡◌, refl, sym, ap, ◌∙◌}
 use mathlib.Core.List.{List, [], ◌∷◌, ◌++◌, map}
 use mathlib.Core.Option.{get_or}
-use lib.ListN.{length, take, length-append}
+use lib.ListN.{length, length-append}
 use lib.Ieee.{Float, binary64, to_bits}
 use Rattle.lists.specs.Base.{concat_map}
 use Rattle.lists.specs.Parts.{patch}
@@ -25,10 +25,10 @@ use Rattle.plan.proofs.Swaps.{patch_first}
 
 -- ---- fitness by the areas noted
 
-pub noted_fitness : (sheets : List GuillotineSheet) (start end : ℕ) (before after : List ℕ) (areas : List SheetAreas) (n : ℕ) → n ≡ length sheets → WritesFrom start sheets before after end areas
-    → get_or (fitness_of (take n areas)) positive_zero ≡ get_or (fitness sheets) positive_zero
-noted_fitness sheets start end before after areas n e so =
-    ap (λ (l : List SheetAreas). get_or (fitness_of l) positive_zero) (ap (λ (m : ℕ). take m areas) e ∙ so.noted)
+pub noted_fitness : (sheets : List GuillotineSheet) (start end : ℕ) (before after : List ℕ) (areas : List SheetAreas) → WritesFrom start sheets before after end areas
+    → get_or (fitness_of areas) positive_zero ≡ get_or (fitness sheets) positive_zero
+noted_fitness sheets start end before after areas so =
+    ap (λ (l : List SheetAreas). get_or (fitness_of l) positive_zero) so.noted
     ∙ ap (λ o. get_or o positive_zero) (sym (fitness_areas sheets))
 
 -- ---- the words

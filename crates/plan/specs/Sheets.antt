@@ -1,5 +1,5 @@
 -- What the writer leaves of the lent memory.
-use Rattle.std.specs.Prelude.{ℕ, ◌+◌, ◌*◌, ◌≡◌, List, ◌++◌, map, length, take, drop}
+use Rattle.std.specs.Prelude.{ℕ, ◌+◌, ◌*◌, ◌≡◌, List, ◌++◌, map, length, drop}
 use Rattle.std.proofs.Math.Option.{get_or}
 use Rattle.lists.specs.Base.{concat_map}
 use Rattle.lists.specs.Parts.{patch}
@@ -31,8 +31,8 @@ bodies_of sheets = concat_map (λ b. b) (map sheet_words sheets)
 pub record WritesFrom (start : ℕ) (sheets : List GuillotineSheet) (before after : List ℕ) (end : ℕ) (areas : List SheetAreas) : Type 0 where
   pub words : after ≡ patch (patch before 4 (contents_from start (map sheet_words sheets))) start (bodies_of sheets)
   pub ends : end ≡ start + length (bodies_of sheets)
-  pub noted : take (length sheets) areas ≡ map areas_of sheets
+  pub noted : areas ≡ map areas_of sheets
 
 -- of all sheets: the bodies start behind the contents
 abbrev pub WritesSheets : List GuillotineSheet → (before after : List ℕ) → Bodies → Type 0
-WritesSheets sheets before after b = WritesFrom (4 + 2 * length sheets) sheets before after b.end b.areas
+WritesSheets sheets before after b = WritesFrom (4 + 2 * length sheets) sheets before after b.end b.areas.items

@@ -1,15 +1,20 @@
 // The plan's words: the writer of a winner's plan, and the reader of one sheet's part.
 #![tactic(auto)]
 
-ghost use Rattle.std.specs.Prelude.{◌≡◌, [], ◌≤◌, length};
+ghost use Rattle.std.specs.Prelude.{◌≡◌, [], ◌≤◌, length, option_map, unwrap_or};
 ghost use Rattle.model.specs.Fitness.{one};
 ghost use Rattle.model.specs.Plan.{plan_words, sheet_part};
-ghost use Rattle.candidate.specs.Stands.{instance_in, Tables, Stands, candidate_in};
+ghost use Rattle.problem.specs.Problem.{Sound};
+ghost use Rattle.candidate.specs.Stands.{Stands, candidate_in};
 ghost use Rattle.plan.specs.Sheets.{Plans, candidate_plan, WritesSheets};
 
-use candidate::{Candidate, Instance};
+use arrayvec::ArrayVec;
+use candidate::Candidate;
 use fitness::SheetAreas;
+use free_rects::FreeRects;
 use model::LayoutKind;
+use problem::ProblemInstance;
+use subtree::Guide;
 
 // ---- writing
 
@@ -17,43 +22,45 @@ use model::LayoutKind;
 #[derive(Drop)]
 pub struct Bodies {
     pub end: usize,
-    pub areas: [SheetAreas; 64],
+    pub areas: ArrayVec<SheetAreas, 64>,
 }
 
-// The contents and the bodies, behind the plan's four first words.
-fn write_sheets(plan: &mut [u32], stock: &[u32], cuts: &[u32], n: Instance, c: Candidate) -> Bodies
-    requires { Tables stock.now cuts.now n × Stands (instance_in stock.now cuts.now n) [] c × (4500 ≤ length plan.old) }
-    ensures { WritesSheets (candidate_in (instance_in stock.now cuts.now n) c).bins plan.old plan.new result }
+// The contents and the bodies, behind the plan's four first words. C lends the plan as a slice of any length, so that it is long enough is a clause;
+// and that the problem is sound is one here, since none of its methods is called.
+fn write_sheets(plan: &mut [u32], inst: &ProblemInstance<'_>, c: &Candidate) -> Bodies
+    requires { Sound inst.now × Stands inst.now [] c.now × (4500 ≤ length plan.old) }
+    ensures { WritesSheets (candidate_in inst.now c.now).bins plan.old plan.new result }
 {
-    let insertions = &c.insertions[..c.placed];
-    let mut areas = [SheetAreas {
-        placed: 0,
-        board: 0,
-    }; 64];
+    let insertions = c.insertions.as_slice();
+    let mut free = FreeRects::new();
+    let mut guide = Guide::new();
+    let mut areas = ArrayVec::new();
     let mut at = 4 + 2 * c.sheets;
     for j in 0..c.sheets {
-        let body = sheet_plan::write_sheet(plan, at, stock, cuts, n, insertions, c.boards[j]);
-        let end = body.end;
-        copying::put_words(plan, 4 + 2 * j, &[at as u32, (end - at) as u32]);
-        areas[j] = body.areas;
-        at = end;
+        let part = &mut plan[at..];
+        let board = c.boards[j];
+        let body = sheet_plan::write_sheet(part, &mut free, &mut guide, inst, insertions, board);
+        copying::put_words(plan, 4 + 2 * j, &[at as u32, body.size as u32]);
+        areas.push(body.areas);
+        at += body.size;
     }
     Bodies { end: at, areas }
 }
 
 // into_solution of a candidate: the plan's words from the first on, all behind them as found. The answer is how many they are.
-pub fn write_plan(plan: &mut [u32], stock: &[u32], cuts: &[u32], n: Instance, c: Candidate) -> usize
-    requires { Tables stock.now cuts.now n × Stands (instance_in stock.now cuts.now n) [] c × (4500 ≤ length plan.old) }
-    ensures { Plans (candidate_plan (candidate_in (instance_in stock.now cuts.now n) c)) plan.old plan.new result }
+pub fn write_plan(plan: &mut [u32], inst: &ProblemInstance<'_>, c: &Candidate) -> usize
+    requires { Stands inst.now [] c.now × (4500 ≤ length plan.old) }
+    ensures { Plans (candidate_plan (candidate_in inst.now c.now)) plan.old plan.new result }
 {
-    let sheets = c.sheets;
-    let bodies = write_sheets(plan, stock, cuts, n, c);
-    let bits = fitness::fitness_bits(&bodies.areas[..sheets]);
+    // The problem is sound: the plan fits.
+    let _sound = inst.stock();
+    let bodies = write_sheets(plan, inst, c);
+    let bits = fitness::fitness_bits(bodies.areas.as_slice());
     copying::put_words(
         plan,
         0,
         &[
-            sheets as u32,
+            c.sheets as u32,
             numbers::low_word(bits),
             numbers::high_word(bits),
             0,
@@ -73,27 +80,22 @@ pub fn empty_plan(plan: &mut [u32], layout: LayoutKind) -> usize
 
 // ---- reading
 
+// The part that a number's entry names, where the number, its entry and the whole part are there.
+fn sheet_part(plan: &[u32], number: u32) -> Option<&[u32]>
+    ensures { unwrap_or (option_map (λ part. part.now) result) [] ≡ sheet_part plan.now number }
+{
+    if *plan.first()? <= number {
+        return None;
+    }
+    let entry = 4 + 2 * (number as usize);
+    let start = *plan.get(entry)? as usize;
+    let size = *plan.get(entry + 1)? as usize;
+    plan.get(start..start + size)
+}
+
 // The words of one sheet, as a part of the plan; none for an absent number, or an entry or its part beyond the slice.
 pub fn sheet_words(plan: &[u32], number: u32) -> &[u32]
     ensures { result.now ≡ sheet_part plan.now number }
 {
-    if plan.len() < 4 {
-        return &plan[..0];
-    }
-    if plan[0] <= number {
-        return &plan[..0];
-    }
-    let entry = 4 + 2 * (number as usize);
-    if plan.len() < entry + 2 {
-        return &plan[..0];
-    }
-    let start = plan[entry] as usize;
-    let size = plan[entry + 1] as usize;
-    if plan.len() < start {
-        return &plan[..0];
-    }
-    if plan.len() - start < size {
-        return &plan[..0];
-    }
-    &plan[start..start + size]
+    sheet_part(plan, number).unwrap_or(&[])
 }

@@ -1,7 +1,7 @@
 // The text of a plan's words, as the program `cutplan` prints it. Any words have a text: a word past the end reads as zero.
 #![tactic(auto)]
 
-ghost use Rattle.std.specs.Prelude.{◌≡◌, [], ◌∷◌, ◌++◌, ◌+◌, ◌*◌, ◌^◌, ◌≤◌, ◌<◌, length, get_or};
+ghost use Rattle.std.specs.Prelude.{◌≡◌, [], ◌∷◌, ◌++◌, ◌+◌, ◌*◌, ◌^◌, ◌<◌, get_or};
 ghost use Rattle.lists.specs.Base.{concat_map, range};
 ghost use Rattle.trust.specs.Words.{sheet_in, piece_size, waste_size, node_size};
 ghost use Rattle.append.specs.Appending.{with_bytes};
@@ -91,14 +91,15 @@ fn node_line<const N: usize>(body: &[u32], row: usize, text: &mut Buffer<N>)
     }
 }
 
-// ---- the rows of a body's parts. A full buffer takes no more: the rows left need not be read.
+// ---- the rows of a body's parts, by where they start and how many they are: any words may count more rows than they hold, so no slice of them
+// could be taken. A full buffer takes no more: the rows left need not be read.
 // One loop that takes the row's line as a closure gets no generated proof: its bound `Fn` would name the const parameter.
 
-fn put_pieces<const N: usize>(body: &[u32], start: usize, many: usize, text: &mut Buffer<N>)
-    requires { (start < 2 ^ 38) × (many < 2 ^ 32) }
+fn put_pieces<const N: usize>(body: &[u32], start: usize, many: u32, text: &mut Buffer<N>)
+    requires { start < 2 ^ 38 }
     ensures { text.new ≡ with_bytes N text.old (concat_map (λ k. piece_at body.now (start + piece_size * k)) (range many)) }
 {
-    for k in 0..many {
+    for k in 0..many as usize {
         if text.is_full() {
             return;
         }
@@ -106,11 +107,11 @@ fn put_pieces<const N: usize>(body: &[u32], start: usize, many: usize, text: &mu
     }
 }
 
-fn put_waste<const N: usize>(body: &[u32], start: usize, many: usize, text: &mut Buffer<N>)
-    requires { (start < 2 ^ 38) × (many < 2 ^ 32) }
+fn put_waste<const N: usize>(body: &[u32], start: usize, many: u32, text: &mut Buffer<N>)
+    requires { start < 2 ^ 38 }
     ensures { text.new ≡ with_bytes N text.old (concat_map (λ k. waste_at body.now (start + waste_size * k)) (range many)) }
 {
-    for k in 0..many {
+    for k in 0..many as usize {
         if text.is_full() {
             return;
         }
@@ -118,11 +119,11 @@ fn put_waste<const N: usize>(body: &[u32], start: usize, many: usize, text: &mut
     }
 }
 
-fn put_nodes<const N: usize>(body: &[u32], start: usize, many: usize, text: &mut Buffer<N>)
-    requires { (start < 2 ^ 38) × (many < 2 ^ 32) }
+fn put_nodes<const N: usize>(body: &[u32], start: usize, many: u32, text: &mut Buffer<N>)
+    requires { start < 2 ^ 38 }
     ensures { text.new ≡ with_bytes N text.old (concat_map (λ k. node_at body.now (start + node_size * k)) (range many)) }
 {
-    for k in 0..many {
+    for k in 0..many as usize {
         if text.is_full() {
             return;
         }
@@ -135,14 +136,15 @@ fn put_nodes<const N: usize>(body: &[u32], start: usize, many: usize, text: &mut
 fn put_sheet<const N: usize>(body: &[u32], text: &mut Buffer<N>)
     ensures { text.new ≡ with_bytes N text.old (sheet_text (sheet_in body.now)) }
 {
-    let pieces = word(body, 7) as usize;
-    let waste = word(body, 8) as usize;
-    let nodes = word(body, 9) as usize;
+    let pieces = word(body, 7);
+    let waste = word(body, 8);
+    let nodes = word(body, 9);
     id_line(b"sheet", body, 0, 5, text);
     put_pieces(body, 10, pieces, text);
-    put_waste(body, 10 + 9 * pieces, waste, text);
+    let behind = 10 + 9 * pieces as usize;
+    put_waste(body, behind, waste, text);
     word_line(b"guide", body, 9, 1, text);
-    put_nodes(body, 10 + 9 * pieces + 4 * waste, nodes, text);
+    put_nodes(body, behind + 4 * waste as usize, nodes, text);
 }
 
 // A full buffer takes no more: the sheets left need not be read.

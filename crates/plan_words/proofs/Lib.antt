@@ -1,3 +1,3 @@
 -- Laws that belong to no one function.
-pub mod Waste
+pub mod Parts
 pub mod Rows

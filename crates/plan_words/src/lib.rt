@@ -1,15 +1,18 @@
-// The words of a plan: a piece's nine, the free rectangles', and the ten before a sheet's pieces.
+// The words of a plan: a piece's nine, the free rectangles', the guide's nodes', and the ten before a sheet's pieces.
 #![tactic(auto)]
 
-ghost use Rattle.std.specs.Prelude.{◌≡◌, ◌+◌, ◌*◌, ◌≤◌, length, get_or};
+ghost use Rattle.std.specs.Prelude.{◌≡◌, ◌+◌, ◌*◌, ◌≤◌, length};
 ghost use Rattle.lists.specs.Base.{concat_map};
 ghost use Rattle.lists.specs.Parts.{patch};
 ghost use Rattle.model.specs.declared.BaselineGuillotineHeuristic.{BaselineGuillotineHeuristic as Heuristic};
 ghost use Rattle.model.specs.Plan.{rect_words, piece_words};
-ghost use Rattle.rect_words.specs.SheetWords.{rects_in, Block};
+ghost use Rattle.subtree.specs.Nodes.{words_of};
 ghost use Rattle.plan_words.specs.Rows.{piece, head_words};
 
-use model::{CutInstance, FitResult, StockInstance};
+use model::{CutInstance, FitResult, Rect, StockInstance};
+use subtree::Node;
+
+// A place in the plan is a number beside it: the rows of a body follow one another, and each place is the sum of what is before it.
 
 // A piece's nine words.
 pub fn put_piece(plan: &mut [u32], at: usize, cut: CutInstance, fit: FitResult)
@@ -34,20 +37,35 @@ pub fn put_piece(plan: &mut [u32], at: usize, cut: CutInstance, fit: FitResult)
     );
 }
 
-// The free rectangles' words. The answer is how many there are.
-pub fn put_waste(plan: &mut [u32], at: usize, rects: &[u32]) -> usize
-    requires { Block rects.now × (at + 4 * get_or rects.now 0 0 ≤ length plan.old) }
-    ensures { (plan.new ≡ patch plan.old at (concat_map rect_words (rects_in rects.now))) × (result ≡ length (rects_in rects.now)) }
+// The free rectangles' words.
+#[tactic(auto, using(crate::proofs::Parts::waste_none, crate::proofs::Parts::waste_step))]
+pub fn put_waste(plan: &mut [u32], at: usize, rects: &[Rect])
+    requires { at + 4 * length rects.now ≤ length plan.old }
+    ensures { plan.new ≡ patch plan.old at (concat_map rect_words rects.now) }
 {
-    let count = rects[0] as usize;
-    copying::put_words(plan, at, &rects[1..1 + 4 * count]);
-    count
+    for (index, rect) in rects.iter().enumerate() {
+        copying::put_words(
+            plan,
+            at + 4 * index,
+            &[rect.x, rect.y, rect.width, rect.length],
+        );
+    }
 }
 
-// The ten words before a sheet's pieces.
+// The words of a guide's nodes.
+#[tactic(auto, using(crate::proofs::Parts::nodes_none, crate::proofs::Parts::nodes_step))]
+pub fn put_nodes(plan: &mut [u32], at: usize, nodes: &[Node])
+    requires { at + 8 * length nodes.now ≤ length plan.old }
+    ensures { plan.new ≡ patch plan.old at (concat_map words_of nodes.now) }
+{
+    for (index, node) in nodes.iter().enumerate() {
+        copying::put_words(plan, at + 8 * index, &node.words());
+    }
+}
+
+// The ten words that a sheet's part begins with.
 pub fn put_head(
-    plan: &mut [u32],
-    at: usize,
+    part: &mut [u32],
     stock: StockInstance,
     used: u32,
     saw: u32,
@@ -55,12 +73,12 @@ pub fn put_head(
     waste: u32,
     nodes: u32,
 )
-    requires { at + 10 ≤ length plan.old }
-    ensures { plan.new ≡ patch plan.old at (head_words stock used saw pieces waste nodes) }
+    requires { 10 ≤ length part.old }
+    ensures { part.new ≡ patch part.old 0 (head_words stock used saw pieces waste nodes) }
 {
     copying::put_words(
-        plan,
-        at,
+        part,
+        0,
         &[
             numbers::low_word(stock.stock_id),
             numbers::high_word(stock.stock_id),

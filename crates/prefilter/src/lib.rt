@@ -1,61 +1,55 @@
 // What is tested before the search: `basic_feasibility_prefilter` of the optimizer.
 #![tactic(auto)]
 
-ghost use Rattle.std.specs.Prelude.{◌≡◌, map, ◌*◌, ◌≤◌, ◌<◌, ◌^◌, length};
-ghost use Rattle.lists.specs.Base.{all, sum, range};
+ghost use Rattle.std.specs.Prelude.{◌≡◌, ◌<◌, ◌^◌, map, sum_by};
+ghost use Rattle.lists.specs.Base.{any, all};
+ghost use Rattle.model.specs.Types.{stock_area, cut_area};
+ghost use Rattle.model.specs.Fit.{cut_fits_stock};
 ghost use Rattle.model.specs.Answer.{prefilter};
 ghost use Rattle.project.specs.Refusals.{refusal_of};
-ghost use Rattle.rows.specs.Rows.{stock_words, cut_words, cut_at};
-ghost use Rattle.candidate.specs.Stands.{instance_in, Tables};
-ghost use Rattle.prefilter.specs.Rows.{fits_any, row_area};
 
-use candidate::Instance;
-use model::CutInstance;
+use model::{CutInstance, StockInstance};
+use problem::ProblemInstance;
 use project::Refusal;
 
-// Whether the cut fits a board of the table.
-fn fits_any(stock: &[u32], boards: usize, cut: CutInstance) -> bool
-    requires { stock_words * boards ≤ length stock.now }
-    ensures { result ≡ fits_any stock.now boards cut }
+// Whether the cut fits a board.
+fn fits_any(stock: &[StockInstance], cut: CutInstance) -> bool
+    ensures { result ≡ any (cut_fits_stock cut) stock.now }
 {
-    (0..boards).any(|i| fits::cut_fits_stock(cut, rows::stock_at(stock, i)))
+    stock.iter().any(|s| fits::cut_fits_stock(cut, *s))
 }
 
-// Whether every cut of the table fits a board.
-fn all_fit(stock: &[u32], cuts: &[u32], inst: Instance) -> bool
-    requires { (stock_words * inst.stock ≤ length stock.now) × (cut_words * inst.cuts ≤ length cuts.now) }
-    ensures { result ≡ all (fits_any stock.now inst.stock) (map (cut_at cuts.now) (range inst.cuts)) }
+// Whether every cut fits a board.
+fn all_fit(stock: &[StockInstance], cuts: &[CutInstance]) -> bool
+    ensures { result ≡ all (λ c. any (cut_fits_stock c) stock.now) cuts.now }
 {
-    (0..inst.cuts).all(|i| fits_any(stock, inst.stock, rows::cut_at(cuts, i)))
+    cuts.iter().all(|c| fits_any(stock, *c))
 }
 
-// total_stock_area and total_cut_area: both tables have width and length at the same places of a row.
-fn total_area(table: &[u32], stride: usize, count: usize) -> u64
-    requires { (5 ≤ stride) × (stride ≤ 7) × (stride * count ≤ length table.now) × (sum (map (row_area stride table.now) (range count)) < 2 ^ 64) }
-    ensures { result ≡ sum (map (row_area stride table.now) (range count)) }
+// The source's two sums, a line each: one over a closure would be no shorter.
+fn total_stock_area(stock: &[StockInstance]) -> u64
+    requires { sum_by stock_area stock.now < 2 ^ 64 }
+    ensures { result ≡ sum_by stock_area stock.now }
 {
-    let mut total = 0;
-    for i in 0..count {
-        let at = stride * i;
-        total += numbers::area(table[at + 3], table[at + 4]);
-    }
-    total
+    stock.iter().map(|s| numbers::area(s.width, s.length)).sum()
 }
 
-pub fn basic_feasibility_prefilter(
-    stock: &[u32],
-    cuts: &[u32],
-    inst: Instance,
-) -> Result<(), Refusal>
-    requires { Tables stock.now cuts.now inst }
-    ensures { refusal_of result ≡ prefilter (instance_in stock.now cuts.now inst) }
+fn total_cut_area(cuts: &[CutInstance]) -> u64
+    requires { sum_by cut_area cuts.now < 2 ^ 64 }
+    ensures { result ≡ sum_by cut_area cuts.now }
 {
-    if !all_fit(stock, cuts, inst) {
+    cuts.iter().map(|c| numbers::area(c.width, c.length)).sum()
+}
+
+pub fn basic_feasibility_prefilter(inst: &ProblemInstance<'_>) -> Result<(), Refusal>
+    ensures { refusal_of result ≡ prefilter inst.now }
+{
+    let stock = inst.stock();
+    let cuts = inst.cuts();
+    if !all_fit(stock, cuts) {
         return Err(Refusal::CutFitsNoStock);
     }
-    let boards = total_area(stock, rows::STOCK_WORDS, inst.stock);
-    let panels = total_area(cuts, rows::CUT_WORDS, inst.cuts);
-    if boards < panels {
+    if total_stock_area(stock) < total_cut_area(cuts) {
         return Err(Refusal::CutAreaTooLarge);
     }
     Ok(())

@@ -1,19 +1,9 @@
 -- What the codes of the settings mean.
 use Prim.Native.Nat.{ℕ, zero, suc}
 use mathlib.Core.Path.{◌≡◌, refl, ap}
-use mathlib.Core.List.{List}
 use Rattle.model.specs.declared.LayoutKind.{LayoutKind}
 use Rattle.model.specs.declared.OptimizerEffort.{OptimizerEffort}
 use Rattle.model.specs.Types.{layout_of, effort_of}
-use Rattle.model.specs.Project.{number, layout_at, effort_at, project_of}
-
-pub layout_read : (bytes : List ℕ) → (project_of bytes).layout ≡ number bytes layout_at 1
-unfolding project_of
-layout_read bytes = refl
-
-pub effort_read : (bytes : List ℕ) → (project_of bytes).effort ≡ number bytes effort_at 1
-unfolding project_of
-effort_read bytes = refl
 
 pub layout_zero : (n : ℕ) → n ≡ 0 → layout_of n ≡ LayoutKind.Guillotine
 layout_zero n e = ap layout_of e
@@ -33,6 +23,6 @@ effort_other zero h k = absurd (h refl)
 effort_other (suc zero) h k = absurd (k refl)
 effort_other (suc (suc n)) h k = refl
 
-pub ruleset layouts = (layout_read, layout_zero, layout_other)
+pub ruleset layouts = (layout_zero, layout_other)
 
-pub ruleset efforts = (effort_read, effort_zero, effort_one, effort_other)
+pub ruleset efforts = (effort_zero, effort_one, effort_other)

@@ -1,13 +1,13 @@
 -- What a well-formed file's lengths are, what its project's parts are by number, and its settings' codes.
-use Prim.Native.Nat.{ℕ, ◌+◌, ◌*◌, ◌%◌, ◌≤◌}
+use Prim.Native.Nat.{ℕ, ◌+◌, ◌*◌, ◌%◌, ◌≤◌, ◌<◌}
 use native.Mathlib.Omega.{arith}
-use mathlib.Core.Path.{◌≡◌, refl, ◌∙◌}
+use mathlib.Core.Path.{◌≡◌, refl, sym}
 use mathlib.Core.Bool.{Bool, true, false, ◌&&◌}
 use mathlib.Core.List.{List}
-use mathlib.Core.Option.{none, some, some-ne-none}
+use mathlib.Core.Option.{some}
 use lib.Dec.{eqb, leb}
 use lib.ListN.{length}
-use borrow.Author.Tests.{eqb-true, leb-true}
+use borrow.Author.Tests.{eqb-true, leb-true, ne_eqb}
 use Rattle.lists.specs.Parts.{part}
 use Rattle.lists.proofs.Booleans.{both}
 use Rattle.model.specs.Project.{record_length, most_records, settings_entry, stock_entry, cuts_entry, settings_start, settings_length, stock_start, start_of, length_of, stock_length, cuts_start, cuts_length, body_length, project_of, well_formed}
@@ -44,6 +44,20 @@ shape bytes e =
       ends = eqb-true (length bytes) (cuts_start bytes + cuts_length bytes) h₁.1;
     }
 
+-- a file that is too short for the contents and settings is not well formed
+pub short_file : (bytes : List ℕ) → length bytes < 32 → false ≡ well_formed bytes
+unfolding well_formed
+short_file bytes h =
+    last
+    (eqb (start_of bytes settings_entry) settings_start && eqb (length_of bytes settings_entry) settings_length && eqb (start_of bytes stock_entry) stock_start
+    && body_length (stock_length bytes) && eqb (start_of bytes cuts_entry) (cuts_start bytes) && body_length (cuts_length bytes))
+    (eqb (length bytes) (cuts_start bytes + cuts_length bytes))
+    (ne_eqb (length bytes) (cuts_start bytes + cuts_length bytes) (λ e. omega arith))
+  where
+    last : (a b : Bool) → b ≡ false → false ≡ (a && b)
+    last true b e = sym e
+    last false b e = refl
+
 module _ (bytes : List ℕ) where
   pub long : well_formed bytes ≡ true → 32 ≤ length bytes
   long e = let s : Shape bytes = shape bytes e in omega arith
@@ -51,17 +65,6 @@ module _ (bytes : List ℕ) where
   pub file_refused : well_formed bytes ≡ false → some 2 ≡ file_refusal bytes
   unfolding file_refusal file_checks first_that_applies
   file_refused e = rw e
-
-  -- a file that no check refuses is well formed, and so long enough to have settings
-  pub passed_formed : file_refusal bytes ≡ none → well_formed bytes ≡ true
-  passed_formed e = go (well_formed bytes) refl
-    where
-      go : (b : Bool) → well_formed bytes ≡ b → b ≡ true
-      go true h = refl
-      go false h = absurd (some-ne-none 2 (file_refused h ∙ e))
-
-  pub passed_long : file_refusal bytes ≡ none → 32 ≤ length bytes
-  passed_long e = long (passed_formed e)
 
   -- ---- the project's parts
 

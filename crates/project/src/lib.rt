@@ -1,40 +1,41 @@
 // The project file: its records and settings.
 #![tactic(auto)]
 
-ghost use Rattle.std.specs.Prelude.{◌≡◌, true, ◌+◌, ◌*◌, ◌/◌, ◌≤◌, length};
+ghost use Rattle.std.specs.Prelude.{◌≡◌, if◌then◌else◌, Some, None, ◌+◌, ◌*◌, ◌/◌, ◌≤◌, length};
 ghost use Rattle.lists.specs.Parts.{part};
 ghost use Rattle.model.specs.Types.{layout_of, effort_of};
-ghost use Rattle.model.specs.Project.{project_of, well_formed, record_length, most_records};
+ghost use Rattle.model.specs.Project.{project_of, body_length, well_formed, record_length, most_records};
 ghost use Rattle.model.specs.Refusal.{total_quantity};
 ghost use Rattle.project.specs.Refusals.{refusal_number};
 ghost use Rattle.project.specs.Records.{piece_of, record_at, records};
 
 use model::{LayoutKind, OptimizerEffort};
+use std::marker::Model;
 
 // Where the numbers of the contents and of the settings are, and where the stock starts.
-pub const SETTINGS_START_AT: usize = 0;
+const SETTINGS_START_AT: usize = 0;
 
-pub const SETTINGS_LENGTH_AT: usize = 4;
+const SETTINGS_LENGTH_AT: usize = 4;
 
-pub const STOCK_START_AT: usize = 8;
+const STOCK_START_AT: usize = 8;
 
-pub const STOCK_LENGTH_AT: usize = 12;
+const STOCK_LENGTH_AT: usize = 12;
 
-pub const CUTS_START_AT: usize = 16;
+const CUTS_START_AT: usize = 16;
 
-pub const CUTS_LENGTH_AT: usize = 20;
+const CUTS_LENGTH_AT: usize = 20;
 
-pub const KERF_AT: usize = 24;
+const KERF_AT: usize = 24;
 
-pub const LAYOUT_AT: usize = 28;
+const LAYOUT_AT: usize = 28;
 
-pub const EFFORT_AT: usize = 29;
+const EFFORT_AT: usize = 29;
 
-pub const UNIT_AT: usize = 30;
+const UNIT_AT: usize = 30;
 
-pub const SPARE_AT: usize = 31;
+const SPARE_AT: usize = 31;
 
-pub const STOCK_START: usize = 32;
+const STOCK_START: usize = 32;
 
 // Bytes of a record.
 const RECORD_LENGTH: usize = 24;
@@ -74,6 +75,7 @@ impl Refusal {
 
 // ---- records
 
+// What a file has; `project_line::Kind` is what a typed line names, in a crate that this one does not need. Each use matches it once, for its data.
 #[derive(Clone, Copy, PartialEq, Eq)]
 pub enum Kind {
     Stock,
@@ -91,39 +93,6 @@ pub struct RawPiece {
     pub pattern: u32,
     pub flag: u32,
     pub spare: u32,
-}
-
-fn part(file: &[u8], start: usize, size: usize) -> &[u8]
-    requires { start + size ≤ length file.now }
-    ensures { result.now ≡ part file.now start size }
-{
-    &file[start..start + size]
-}
-
-// The stock records of a file, one behind the other.
-pub fn stock_body(file: &[u8]) -> &[u8]
-    requires { well_formed file.now ≡ true }
-    ensures few { length result.now ≤ record_length * most_records }
-    ensures read { records result.now ≡ (project_of file.now).stock }
-{
-    part(
-        file,
-        STOCK_START,
-        numbers::number_4(file, STOCK_LENGTH_AT) as usize,
-    )
-}
-
-// The cut records, behind them.
-pub fn cuts_body(file: &[u8]) -> &[u8]
-    requires { well_formed file.now ≡ true }
-    ensures few { length result.now ≤ record_length * most_records }
-    ensures read { records result.now ≡ (project_of file.now).cuts }
-{
-    part(
-        file,
-        numbers::number_4(file, CUTS_START_AT) as usize,
-        numbers::number_4(file, CUTS_LENGTH_AT) as usize,
-    )
 }
 
 pub fn record_count(body: &[u8]) -> usize
@@ -161,34 +130,156 @@ pub fn total_quantity(body: &[u8]) -> u64
     total
 }
 
-// ---- the settings of a file that is long enough to have them
+// ---- the shape of a file
 
-pub fn kerf_width(file: &[u8]) -> u32
-    requires { 32 ≤ length file.now }
-    ensures { result ≡ (project_of file.now).kerf }
+fn body_length(n: u32) -> bool
+    ensures { result ≡ body_length n }
 {
-    numbers::number_4(file, KERF_AT)
+    n % 24 == 0 && n <= 1536
 }
 
-#[tactic(auto, using(crate::proofs::Codes::layouts))]
-pub fn layout_kind(file: &[u8]) -> LayoutKind
-    requires { 32 ≤ length file.now }
-    ensures { result ≡ layout_of (project_of file.now).layout }
+// The contents and the settings have their places and lengths, and the bodies are of whole records and follow without gaps or
+// trailing bytes.
+#[tactic(auto, using(crate::proofs::Shape::short_file), unfolding(model::specs::Project::well_formed))]
+fn well_formed(file: &[u8]) -> bool
+    ensures { result ≡ well_formed file.now }
 {
-    match numbers::number_1(file, LAYOUT_AT) {
-        0 => LayoutKind::Guillotine,
-        _ => LayoutKind::Nested,
+    if file.len() < 32 {
+        return false;
     }
+    let stock_length = numbers::number_4(file, STOCK_LENGTH_AT);
+    let cuts_length = numbers::number_4(file, CUTS_LENGTH_AT);
+    let stock_end = 32 + u64::from(stock_length);
+    numbers::number_4(file, SETTINGS_START_AT) == 24
+        && numbers::number_4(file, SETTINGS_LENGTH_AT) == 8
+        && numbers::number_4(file, STOCK_START_AT) == 32
+        && body_length(stock_length)
+        && u64::from(numbers::number_4(file, CUTS_START_AT)) == stock_end
+        && body_length(cuts_length)
+        && file.len() as u64 == stock_end + u64::from(cuts_length)
 }
 
-#[tactic(auto, using(crate::proofs::Codes::efforts))]
-pub fn effort(file: &[u8]) -> OptimizerEffort
-    requires { 32 ≤ length file.now }
-    ensures { result ≡ effort_of (project_of file.now).effort }
+fn part(file: &[u8], start: usize, size: usize) -> &[u8]
+    requires { start + size ≤ length file.now }
+    ensures { result.now ≡ part file.now start size }
 {
-    match numbers::number_1(file, EFFORT_AT) {
-        0 => OptimizerEffort::Fast,
-        1 => OptimizerEffort::Balanced,
-        _ => OptimizerEffort::Thorough,
+    &file[start..start + size]
+}
+
+// ---- a file
+
+// A file of the right shape, which every part can be read of.
+#[derive(Drop)]
+pub struct ProjectFile<'a> {
+    bytes: &'a [u8],
+}
+
+// Clauses see the bytes.
+impl<'a> Model for ProjectFile<'a> {
+    ghost use Rattle.std.specs.Prelude.{◌≡◌, ℕ, true, List};
+    ghost use Rattle.model.specs.Project.{well_formed};
+
+    ghost Value = { List ℕ };
+
+    ghost view = { λ f. f.bytes.now };
+
+    ghost invariant = { λ f. well_formed f.bytes.now ≡ true };
+}
+
+impl<'a> ProjectFile<'a> {
+    // None of bytes that are not well formed.
+    pub fn read(bytes: &'a [u8]) -> Option<Self>
+        ensures { result ≡ (if well_formed bytes.now then Some bytes.now else None) }
+    {
+        if well_formed(bytes) {
+            Some(ProjectFile { bytes })
+        } else {
+            None
+        }
+    }
+
+    // The stock records, one behind the other.
+    #[tactic(auto, using(crate::proofs::Shape::long))]
+    pub fn stock_body(&self) -> &[u8]
+        ensures few { length result.now ≤ record_length * most_records }
+        ensures read { records result.now ≡ (project_of self.now).stock }
+    {
+        part(
+            self.bytes,
+            STOCK_START,
+            numbers::number_4(self.bytes, STOCK_LENGTH_AT) as usize,
+        )
+    }
+
+    // The cut records, behind them.
+    #[tactic(auto, using(crate::proofs::Shape::long))]
+    pub fn cuts_body(&self) -> &[u8]
+        ensures few { length result.now ≤ record_length * most_records }
+        ensures read { records result.now ≡ (project_of self.now).cuts }
+    {
+        part(
+            self.bytes,
+            numbers::number_4(self.bytes, CUTS_START_AT) as usize,
+            numbers::number_4(self.bytes, CUTS_LENGTH_AT) as usize,
+        )
+    }
+
+    #[tactic(auto, using(crate::proofs::Shape::long), unfolding(model::specs::Project::project_of))]
+    pub fn kerf_width(&self) -> u32
+        ensures { result ≡ (project_of self.now).kerf }
+    {
+        numbers::number_4(self.bytes, KERF_AT)
+    }
+
+    // The codes of the settings as they stand in the file.
+    #[tactic(auto, using(crate::proofs::Shape::long), unfolding(model::specs::Project::project_of))]
+    pub fn layout_code(&self) -> u32
+        ensures { result ≡ (project_of self.now).layout }
+    {
+        numbers::number_1(self.bytes, LAYOUT_AT)
+    }
+
+    #[tactic(auto, using(crate::proofs::Shape::long), unfolding(model::specs::Project::project_of))]
+    pub fn effort_code(&self) -> u32
+        ensures { result ≡ (project_of self.now).effort }
+    {
+        numbers::number_1(self.bytes, EFFORT_AT)
+    }
+
+    #[tactic(auto, using(crate::proofs::Shape::long), unfolding(model::specs::Project::project_of))]
+    pub fn unit_code(&self) -> u32
+        ensures { result ≡ (project_of self.now).unit }
+    {
+        numbers::number_1(self.bytes, UNIT_AT)
+    }
+
+    // The last byte of the settings.
+    #[tactic(auto, using(crate::proofs::Shape::long), unfolding(model::specs::Project::project_of))]
+    pub fn spare(&self) -> u32
+        ensures { result ≡ (project_of self.now).spare }
+    {
+        numbers::number_1(self.bytes, SPARE_AT)
+    }
+
+    // What a code means.
+    #[tactic(auto, using(crate::proofs::Codes::layouts))]
+    pub fn layout_kind(&self) -> LayoutKind
+        ensures { result ≡ layout_of (project_of self.now).layout }
+    {
+        match self.layout_code() {
+            0 => LayoutKind::Guillotine,
+            _ => LayoutKind::Nested,
+        }
+    }
+
+    #[tactic(auto, using(crate::proofs::Codes::efforts))]
+    pub fn effort(&self) -> OptimizerEffort
+        ensures { result ≡ effort_of (project_of self.now).effort }
+    {
+        match self.effort_code() {
+            0 => OptimizerEffort::Fast,
+            1 => OptimizerEffort::Balanced,
+            _ => OptimizerEffort::Thorough,
+        }
     }
 }

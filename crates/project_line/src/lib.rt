@@ -55,8 +55,9 @@ pub enum Kind {
     Panel,
 }
 
-// The fields of a record of the project file, numbers as they are there; `flag` is finite or can_rotate.
-#[derive(Clone, Copy, Debug, PartialEq, Eq)]
+// The fields of a record of the project file, as numbers as they are there: a typed word is a place in a table, so an enum between them would be
+// made and unmade at once. `flag` is finite or can_rotate.
+#[derive(Clone, Copy, Debug, PartialEq, Eq, Default)]
 pub struct Row {
     pub id: u64,
     pub width: u64,
@@ -66,7 +67,7 @@ pub struct Row {
     pub flag: u64,
 }
 
-// What a line says; a setting with its number in the project file.
+// What a line says; a setting with its number in the project file. A blank line is one of those that a text has, and is counted like the others.
 #[derive(Clone, Copy, Debug, PartialEq, Eq)]
 pub enum Line {
     Blank,
@@ -74,6 +75,7 @@ pub enum Line {
     Record(Kind, Row),
 }
 
+// What a line begins with: both are words of lines, and none is the other's absence.
 #[derive(Clone, Copy)]
 enum Keyword {
     Setting(Setting),

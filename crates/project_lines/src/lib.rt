@@ -8,6 +8,7 @@ ghost use Rattle.project_line.specs.Lines.{line_of};
 ghost use Rattle.project_lines.specs.Project.{empty, set, pushed, added, too_many, refusal_of, answer_of, row_text, rows_text, contents_text, settings_text, file_text, meaning, file_of, message_of_line};
 
 use append::Buffer;
+use arrayvec::ArrayVec;
 use project_line::{Kind, Line, Reason, Row, Setting};
 use std::error::Error;
 use std::fmt;
@@ -18,36 +19,24 @@ use std::marker::Model;
 // At most 64 records of a kind.
 #[derive(Drop)]
 struct Rows {
-    all: [Row; 64],
-    len: usize,
+    all: ArrayVec<Row, 64>,
 }
 
 impl Model for Rows {
-    ghost use Rattle.std.specs.Prelude.{List, ◌≤◌, take};
+    ghost use Rattle.std.specs.Prelude.{List};
     ghost use Rattle.project_line.specs.declared.Row.{Row};
 
     ghost Value = { List Row };
 
-    ghost view = { λ rows. take rows.len rows.all };
-
-    ghost invariant = { λ rows. rows.len ≤ 64 };
+    ghost view = { λ rows. rows.all.items };
 }
 
 impl Rows {
     fn new() -> Self
         ensures { result ≡ [] }
     {
-        let none = Row {
-            id: 0,
-            width: 0,
-            length: 0,
-            quantity: 0,
-            pattern: 0,
-            flag: 0,
-        };
         Rows {
-            all: [none; 64],
-            len: 0,
+            all: ArrayVec::new(),
         }
     }
 
@@ -56,22 +45,19 @@ impl Rows {
         ensures answer { result ≡ answer_of (too_many (length self.old)) }
         ensures rows { self.new ≡ pushed self.old row }
     {
-        if self.len == 64 {
-            return Err(Reason::TooMany);
-        }
-        self.all[self.len] = row;
-        self.len += 1;
-        Ok(())
+        self.all.try_push(row).map_err(|_| Reason::TooMany)
     }
 
     fn as_slice(&self) -> &[Row]
         ensures rows { result.now ≡ self.now }
         ensures within { length self.now ≤ 64 }
     {
-        &self.all[..self.len]
+        self.all.as_slice()
     }
 }
 
+// The settings are the numbers that the file has: a typed word is a place in a table, and the file a byte, so an enum between them would be made
+// and unmade at once.
 #[derive(Drop)]
 struct Draft {
     kerf: u64,

@@ -1,10 +1,8 @@
 -- A sheet's free rectangles in lent words: the count, then four words a rectangle.
-use Rattle.std.specs.Prelude.{ℕ, ◌+◌, ◌*◌, ◌≤◌, ◌≡◌, List, ◌∷◌, ◌++◌, map, length, get_or, take, drop}
+use Rattle.std.specs.Prelude.{ℕ, ◌+◌, ◌*◌, ◌≤◌, List, ◌∷◌, ◌++◌, map, length, get_or, take, drop}
 use Rattle.lists.specs.Base.{range, concat_map}
 use Rattle.model.specs.declared.Rect.{Rect}
-use Rattle.model.specs.declared.PatternDirection.{PatternDirection}
 use Rattle.model.specs.Types.{rect}
-use Rattle.model.specs.Sheet.{GuillotineSheet}
 use Rattle.model.specs.Plan.{rect_words}
 
 unfoldable pub rect_at : List ℕ → ℕ → Rect
@@ -36,8 +34,3 @@ block_words = 261
 pub record Block (words : List ℕ) : Type 0 where
   pub room : block_words ≤ length words
   pub few : get_or words 0 0 ≤ most_rects
-
--- the words are those of the sheet's free rectangles, the pattern is its board's
-pub record Shows (words : List ℕ) (pattern : PatternDirection) (sheet : GuillotineSheet) : Type 0 where
-  pub rects : sheet.free_rects ≡ rects_in words
-  pub grain : sheet.stock.pattern ≡ pattern

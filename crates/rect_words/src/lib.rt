@@ -1,13 +1,14 @@
-// A sheet's free rectangles in lent words, read and written (`GuillotineSheet::new`).
+// A sheet's free rectangles in words, read and written, for a driver that lends them so.
 #![tactic(auto)]
 
 ghost use Rattle.std.specs.Prelude.{◌≡◌, ◌∷◌, [], ◌≤◌, ◌<◌};
 ghost use lib.ListN.{length};
-ghost use Rattle.model.specs.Types.{rect};
 ghost use Rattle.rect_words.specs.SheetWords.{rect_at, rects_in, put_rect, put_rects, with_rects, most_rects, block_words, Block};
 
 use free_rects::FreeRects;
 use model::Rect;
+
+// The words are lent, so that they are a whole block is a clause.
 
 #[tactic(auto, unfolding(crate::specs::SheetWords::rect_at))]
 pub fn rect_at(sheet: &[u32], index: usize) -> Rect
@@ -66,20 +67,4 @@ pub fn store(sheet: &mut [u32], free: &FreeRects)
 {
     sheet[0] = free.len() as u32;
     store_rects(sheet, free.as_slice());
-}
-
-// The bare board.
-#[tactic(auto, using(crate::proofs::Words::bare_words))]
-pub fn new_sheet(sheet: &mut [u32], width: u32, length: u32)
-    requires { block_words ≤ lib.ListN.length sheet.old }
-    ensures { sheet.new ≡ with_rects (rect 0 0 width length ∷ []) sheet.old }
-{
-    let board = Rect {
-        x: 0,
-        y: 0,
-        width,
-        length,
-    };
-    sheet[0] = 1;
-    put_rect(sheet, 0, board);
 }

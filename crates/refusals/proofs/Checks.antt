@@ -1,45 +1,58 @@
 -- The table of refusals, row by row.
-use Rattle.std.specs.Prelude.{if◌then◌else◌}
+use Rattle.std.specs.Prelude.{if◌then◌else◌, Some, None}
+use Rattle.std.specs.Bool.{then_some}
+use Rattle.std.specs.Prelude as Language
 use Prim.Native.Nat.{ℕ, zero, suc, ◌+◌, ◌/◌, ◌≤◌, ◌<◌}
 use native.Mathlib.Numerals.{add-one}
 use native.Mathlib.Omega.{arith}
 use mathlib.Core.Path.{◌≡◌, refl, sym, ap, ◌∙◌}
 use mathlib.Core.Bool.{Bool, true, false, not, ◌&&◌, ◌||◌}
-use mathlib.Core.List.{List, [], ◌∷◌, ◌++◌, map}
+use mathlib.Core.List.{List, [], ◌∷◌, ◌++◌}
 use mathlib.Core.Option.{Option, none, some}
 use lib.Dec.{eqb, ltb}
 use lib.ListN.{length, get_or, drop}
 use lib.Seq.{drop-cons}
-use borrow.Author.Tests.{eqb-false, ne_eqb}
+use borrow.Author.Tests.{eqb-false}
 use Rattle.std.proofs.lemmas.List.{drop_all}
 use Rattle.lists.specs.Base.{◌<|>◌, any}
-use Rattle.model.specs.Project.{Piece, Project, record_length, start_of, length_of, settings_entry, stock_entry, cuts_entry, settings_start, settings_length, stock_start, stock_length, cuts_start, cuts_length, body_length, well_formed}
+use Rattle.model.specs.Project.{Piece, Project, record_length}
 use Rattle.model.specs.Refusal.{Check, first_that_applies, bad_codes, zero_side, large_side, unlimited, RecordRule, stock_rule, cut_rule, record_checks, most_side, settings_checks}
 use Rattle.project.specs.Records.{record_at, records}
 use Rattle.project.proofs.Records.{left, left_all, left_next, left_none}
 use Rattle.project.specs.declared.Refusal.{Refusal}
 use Rattle.project.specs.Refusals.{refusal_number}
-use Rattle.refusals.specs.Checks.{check_of, bad_settings, ids_before}
+use Rattle.refusals.specs.Checks.{first_given, bad_settings, ids_before}
 
--- ---- the first row of a table
+-- ---- the first check of a table
 
-module _ (rows : List (Bool × Refusal)) (k : ℕ) where
-  abbrev here : Bool × Refusal
-  here = get_or rows k (false, Refusal.TooSmallMemory)
+module _ (checks : List (Language.Option Refusal)) (k : ℕ) where
+  abbrev here : Language.Option Refusal
+  here = get_or checks k None
 
-  pub row_applies : k < length rows → here.0 ≡ true → first_that_applies (map check_of (drop k rows)) ≡ some (refusal_number here.1)
-  unfolding first_that_applies
-  row_applies h e = rw (drop-cons rows k (false, Refusal.TooSmallMemory), e)
+  pub check_applies : (r : Refusal) → k < length checks → here ≡ Some r → first_given (drop k checks) ≡ some (refusal_number r)
+  unfolding first_given
+  check_applies r h e = rw (drop-cons checks k None, e)
 
-  pub row_passes : k < length rows → here.0 ≡ false → first_that_applies (map check_of (drop k rows)) ≡ first_that_applies (map check_of (drop (k + 1) rows))
-  unfolding first_that_applies
-  row_passes h e = rw (drop-cons rows k (false, Refusal.TooSmallMemory), e, add-one)
+  pub check_passes : k < length checks → here ≡ None → first_given (drop k checks) ≡ first_given (drop (k + 1) checks)
+  unfolding first_given
+  check_passes h e = rw (drop-cons checks k None, e, add-one)
 
-  pub no_row : length rows ≤ k → first_that_applies (map check_of (drop k rows)) ≡ none
-  unfolding first_that_applies
-  no_row h = rw (drop_all k rows h)
+  pub no_check : length checks ≤ k → first_given (drop k checks) ≡ none
+  unfolding first_given
+  no_check h = rw (drop_all k checks h)
 
-pub ruleset table = (row_applies, row_passes, no_row)
+pub ruleset table = (check_applies, check_passes, no_check)
+
+-- a check's refusal where its condition holds, as in the definition's row
+pub check_row : (b : Bool) (r : Refusal) (o : Language.Option Refusal) (checks : List (Language.Option Refusal)) (rows : List Check)
+    → o ≡ then_some b r → first_given checks ≡ first_that_applies rows → first_given (o ∷ checks) ≡ first_that_applies ((refusal_number r, b) ∷ rows)
+unfolding first_given first_that_applies
+check_row true r o checks rows e f = rw e refl
+check_row false r o checks rows e f = rw e f
+
+pub no_rows : first_given [] ≡ first_that_applies []
+unfolding first_given first_that_applies
+no_rows = refl
 
 -- ---- an id among those before
 
@@ -70,24 +83,19 @@ module _ (body : List ℕ) (id : ℕ) where
 
 -- ---- the rows of a record from what the code finds of it
 
-module _ (p q : Piece) (seen : List ℕ) (count more : ℕ) (own : Bool × (Bool × Refusal) × Refusal) (zero large used : Bool)
+module _ (p q : Piece) (seen : List ℕ) (count more : ℕ) (codes zero large used : Bool)
     (same : p ≡ q) (more_is : more ≡ p.quantity) (zero_is : zero ≡ zero_side p) (large_is : large ≡ large_side p) (used_is : used ≡ any (eqb p.id) seen) where
-  abbrev found : List Check
-  found = (5, own.0) ∷ (6, zero) ∷ (7, large) ∷ check_of own.1 ∷ (9, used) ∷ (refusal_number own.2, ltb 64 (count + more)) ∷ []
-
-  pub stock_rows : (codes : Bool) → codes ≡ (bad_codes p || (unlimited p && not (eqb p.quantity 0)))
-      → own ≡ (codes, (eqb p.flag 0, Refusal.UnlimitedStock), Refusal.TooManyStockInstances)
-      → first_that_applies found ≡ first_that_applies (stock_rule seen count q)
+  pub stock_rows : codes ≡ (bad_codes p || (unlimited p && not (eqb p.quantity 0)))
+      → first_that_applies ((5, codes) ∷ (6, zero) ∷ (7, large) ∷ (8, eqb p.flag 0) ∷ (9, used) ∷ (10, ltb 64 (count + more)) ∷ []) ≡ first_that_applies (stock_rule seen count q)
   unfolding stock_rule
-  stock_rows codes codes-is own-is =
-      rw (own-is, codes-is, zero_is, large_is, used_is, more_is) (ap (λ (r : Piece). first_that_applies (stock_rule seen count r)) same)
+  stock_rows codes-is =
+      rw (codes-is, zero_is, large_is, used_is, more_is) (ap (λ (r : Piece). first_that_applies (stock_rule seen count r)) same)
 
-  pub cut_rows : (codes : Bool) → codes ≡ bad_codes p
-      → own ≡ (codes, (eqb p.quantity 0, Refusal.ZeroQuantity), Refusal.TooManyCutInstances)
-      → first_that_applies found ≡ first_that_applies (cut_rule seen count q)
+  pub cut_rows : codes ≡ bad_codes p
+      → first_that_applies ((5, codes) ∷ (6, zero) ∷ (7, large) ∷ (11, eqb p.quantity 0) ∷ (9, used) ∷ (12, ltb 64 (count + more)) ∷ []) ≡ first_that_applies (cut_rule seen count q)
   unfolding cut_rule
-  cut_rows codes codes-is own-is =
-      rw (own-is, codes-is, zero_is, large_is, used_is, more_is) (ap (λ (r : Piece). first_that_applies (cut_rule seen count r)) same)
+  cut_rows codes-is =
+      rw (codes-is, zero_is, large_is, used_is, more_is) (ap (λ (r : Piece). first_that_applies (cut_rule seen count r)) same)
 
 -- ---- tables one behind the other
 
@@ -127,22 +135,6 @@ module _ (body : List ℕ) (rule : RecordRule) where
   pub rest_none : (i count : ℕ) → length body / record_length ≤ i → rest i count ≡ none
   unfolding record_checks first_that_applies
   rest_none i count h = ap (λ (ps : List Piece). first_that_applies (record_checks rule (ids_before body i) count ps)) (left_none body i h)
-
--- ---- the shape of the file
-
--- a file that is too short for the contents and settings is not well formed
-pub short_file : (bytes : List ℕ) → length bytes < 32 → false ≡ well_formed bytes
-unfolding well_formed
-short_file bytes h =
-    last
-    (eqb (start_of bytes settings_entry) settings_start && eqb (length_of bytes settings_entry) settings_length && eqb (start_of bytes stock_entry) stock_start
-    && body_length (stock_length bytes) && eqb (start_of bytes cuts_entry) (cuts_start bytes) && body_length (cuts_length bytes))
-    (eqb (length bytes) (cuts_start bytes + cuts_length bytes))
-    (ne_eqb (length bytes) (cuts_start bytes + cuts_length bytes) (λ e. omega arith))
-  where
-    last : (a b : Bool) → b ≡ false → false ≡ (a && b)
-    last true b e = sym e
-    last false b e = refl
 
 -- ---- the settings
 

@@ -13,7 +13,7 @@ use Rattle.lists.specs.Base.{◌<|>◌, count_from, is_empty}
 use Rattle.model.specs.Project.{Piece, Project, record_length, project_of, well_formed}
 use Rattle.model.specs.Refusal.{Check, first_that_applies, stock_rule, cut_rule, settings_checks, record_checks, total_quantity, whole_checks, project_checks, file_checks, file_refusal}
 use Rattle.project.specs.Records.{records_from, records}
-use Rattle.project.proofs.Shape.{long, file_refused}
+use Rattle.project.proofs.Shape.{file_refused}
 use Rattle.refusals.proofs.Checks.{rows_append}
 
 -- ---- the checks after all records
@@ -66,6 +66,6 @@ stops n o p e = ap (λ (q : Option ℕ). q <|> p) e
 pub goes_on : (o p : Option ℕ) → o ≡ none → (o <|> p) ≡ p
 goes_on o p e = ap (λ (q : Option ℕ). q <|> p) e
 
-pub ruleset in_turn = (long, project_rows, stops, goes_on)
+pub ruleset in_turn = (project_rows, stops, goes_on)
 
 pub ruleset of_the_file = (file_refused, file_contents)

@@ -1,29 +1,30 @@
 // The checks that refuse a project file, in the order of the refusals' numbers, 2 to 14.
 #![tactic(auto)]
 
-ghost use Rattle.std.specs.Prelude.{◌≡◌, true, ◌&&◌, ◌||◌, not, [], ◌+◌, ◌*◌, ◌^◌, ◌≤◌, eqb, length, map};
+ghost use Rattle.std.specs.Prelude.{◌≡◌, ◌&&◌, ◌||◌, not, [], ◌+◌, ◌*◌, ◌^◌, ◌≤◌, eqb, length, IfOk};
 ghost use Rattle.lists.specs.Base.{any};
-ghost use Rattle.model.specs.Project.{project_of, well_formed, body_length, record_length, most_records};
+ghost use Rattle.model.specs.Project.{project_of, record_length, most_records};
 ghost use Rattle.model.specs.Refusal.{bad_codes, zero_side, large_side, unlimited, first_that_applies, settings_checks, record_checks, whole_checks, project_checks, file_refusal};
 ghost use Rattle.project.specs.Records.{piece_of, record_at, records};
 ghost use Rattle.project.specs.Refusals.{refusal_of};
-ghost use Rattle.refusals.specs.Checks.{check_of, rule_of, bad_settings, ids_before};
+ghost use Rattle.refusals.specs.Checks.{first_given, rule_of, bad_settings, ids_before, Checked};
 
-use project::{Kind, RawPiece, Refusal};
+use project::{Kind, ProjectFile, RawPiece, Refusal};
+use std::marker::Model;
 
 // The largest side and kerf, and the most instances of a kind.
 const MOST_SIDE: u32 = 1_000_000;
 
 const MOST_INSTANCES: u64 = 64;
 
-// The first row of a table whose condition holds.
+// The first refusal that applies.
 #[tactic(auto, using(crate::proofs::Checks::table))]
-fn first_that_applies(rows: &[(bool, Refusal)]) -> Result<(), Refusal>
-    ensures { refusal_of result ≡ first_that_applies (map check_of rows.now) }
+fn first_that_applies(checks: &[Option<Refusal>]) -> Result<(), Refusal>
+    ensures { refusal_of result ≡ first_given checks.now }
 {
-    for (applies, refusal) in rows {
-        if *applies {
-            return Err(*refusal);
+    for check in checks {
+        if let Some(refusal) = *check {
+            return Err(refusal);
         }
     }
     Ok(())
@@ -78,22 +79,22 @@ fn check_record(kind: Kind, body: &[u8], i: usize, count: u64) -> Result<(), Ref
     let (codes, own, over) = match kind {
         Kind::Stock => (
             bad_stock_codes(p),
-            (p.flag == 0, Refusal::UnlimitedStock),
+            (p.flag == 0).then_some(Refusal::UnlimitedStock),
             Refusal::TooManyStockInstances,
         ),
         Kind::Cut => (
             bad_codes(p),
-            (p.quantity == 0, Refusal::ZeroQuantity),
+            (p.quantity == 0).then_some(Refusal::ZeroQuantity),
             Refusal::TooManyCutInstances,
         ),
     };
     first_that_applies(&[
-        (codes, Refusal::BadCodes),
-        (zero_side(p), Refusal::ZeroSide),
-        (large_side(p), Refusal::LargeSide),
+        codes.then_some(Refusal::BadCodes),
+        zero_side(p).then_some(Refusal::ZeroSide),
+        large_side(p).then_some(Refusal::LargeSide),
         own,
-        (id_used(body, i, p.id), Refusal::RepeatedId),
-        (count + u64::from(p.quantity) > MOST_INSTANCES, over),
+        id_used(body, i, p.id).then_some(Refusal::RepeatedId),
+        (count + u64::from(p.quantity) > MOST_INSTANCES).then_some(over),
     ])
 }
 
@@ -110,94 +111,86 @@ fn check_records(kind: Kind, body: &[u8]) -> Result<(), Refusal>
     Ok(())
 }
 
-// ---- the shape of the file
-
-fn body_length(n: u32) -> bool
-    ensures { result ≡ body_length n }
-{
-    n % 24 == 0 && n <= 1536
-}
-
-// The contents and the settings have their places and lengths, and the bodies are of whole records and follow without gaps or
-// trailing bytes.
-#[tactic(auto, using(crate::proofs::Checks::short_file), unfolding(model::specs::Project::well_formed))]
-fn well_formed(file: &[u8]) -> bool
-    ensures { result ≡ well_formed file.now }
-{
-    if file.len() < 32 {
-        return false;
-    }
-    let stock_length = numbers::number_4(file, project::STOCK_LENGTH_AT);
-    let cuts_length = numbers::number_4(file, project::CUTS_LENGTH_AT);
-    let stock_end = 32 + u64::from(stock_length);
-    numbers::number_4(file, project::SETTINGS_START_AT) == 24
-        && numbers::number_4(file, project::SETTINGS_LENGTH_AT) == 8
-        && numbers::number_4(file, project::STOCK_START_AT) == 32
-        && body_length(stock_length)
-        && u64::from(numbers::number_4(file, project::CUTS_START_AT)) == stock_end
-        && body_length(cuts_length)
-        && file.len() as u64 == stock_end + u64::from(cuts_length)
-}
-
 // ---- settings
 
-#[tactic(auto, unfolding(model::specs::Project::project_of))]
-fn bad_settings(file: &[u8]) -> bool
-    requires { 32 ≤ length file.now }
+fn bad_settings(file: &ProjectFile<'_>) -> bool
     ensures { result ≡ bad_settings (project_of file.now) }
 {
-    numbers::number_1(file, project::LAYOUT_AT) > 1
-        || numbers::number_1(file, project::EFFORT_AT) > 2
-        || numbers::number_1(file, project::UNIT_AT) > 2
-        || numbers::number_1(file, project::SPARE_AT) != 0
+    file.layout_code() > 1 || file.effort_code() > 2 || file.unit_code() > 2 || file.spare() != 0
 }
 
-fn check_settings(file: &[u8]) -> Result<(), Refusal>
-    requires { 32 ≤ length file.now }
+fn check_settings(file: &ProjectFile<'_>) -> Result<(), Refusal>
     ensures { refusal_of result ≡ first_that_applies (settings_checks (project_of file.now)) }
 {
     first_that_applies(&[
-        (bad_settings(file), Refusal::BadSettings),
-        (project::kerf_width(file) > MOST_SIDE, Refusal::LargeKerf),
+        bad_settings(file).then_some(Refusal::BadSettings),
+        (file.kerf_width() > MOST_SIDE).then_some(Refusal::LargeKerf),
     ])
 }
 
 // ---- the whole file
 
 // Cuts need stock and the guillotine layout.
-fn check_whole(file: &[u8]) -> Result<(), Refusal>
-    requires { well_formed file.now ≡ true }
+fn check_whole(file: &ProjectFile<'_>) -> Result<(), Refusal>
     ensures { refusal_of result ≡ first_that_applies (whole_checks (project_of file.now)) }
 {
-    if project::record_count(project::cuts_body(file)) == 0 {
+    if project::record_count(file.cuts_body()) == 0 {
         return Ok(());
     }
-    let stock = project::total_quantity(project::stock_body(file));
-    let layout = numbers::number_1(file, project::LAYOUT_AT);
+    let stock = project::total_quantity(file.stock_body());
+    let layout = file.layout_code();
     first_that_applies(&[
-        (stock == 0, Refusal::NoStock),
-        (layout == 1, Refusal::NestedLayout),
+        (stock == 0).then_some(Refusal::NoStock),
+        (layout == 1).then_some(Refusal::NestedLayout),
     ])
 }
 
 #[tactic(auto, using(crate::proofs::Whole::in_turn))]
-fn check_contents(file: &[u8]) -> Result<(), Refusal>
-    requires { well_formed file.now ≡ true }
+fn check_contents(file: &ProjectFile<'_>) -> Result<(), Refusal>
     ensures { refusal_of result ≡ first_that_applies (project_checks (project_of file.now)) }
 {
     check_settings(file)?;
-    check_records(Kind::Stock, project::stock_body(file))?;
-    check_records(Kind::Cut, project::cuts_body(file))?;
+    check_records(Kind::Stock, file.stock_body())?;
+    check_records(Kind::Cut, file.cuts_body())?;
     check_whole(file)
+}
+
+// A file that no check refuses.
+#[derive(Drop)]
+pub struct CheckedFile<'a> {
+    file: ProjectFile<'a>,
+}
+
+// Clauses see the bytes.
+impl<'a> Model for CheckedFile<'a> {
+    ghost use Rattle.std.specs.Prelude.{ℕ, List};
+    ghost use Rattle.refusals.specs.Checks.{Checked};
+
+    ghost Value = { List ℕ };
+
+    ghost view = { λ c. c.file };
+
+    ghost invariant = { λ c. Checked c.file };
+}
+
+impl<'a> CheckedFile<'a> {
+    pub fn project(&self) -> &ProjectFile<'a>
+        ensures value { result.now ≡ self.now }
+        ensures checked { Checked self.now }
+    {
+        &self.file
+    }
 }
 
 // The first of the refusals 2 to 14 that applies to a file.
 #[tactic(auto, using(crate::proofs::Whole::of_the_file))]
-pub fn check_project(file: &[u8]) -> Result<(), Refusal>
-    ensures { refusal_of result ≡ file_refusal file.now }
+pub fn check_project(bytes: &[u8]) -> Result<CheckedFile<'_>, Refusal>
+    ensures refused { refusal_of result ≡ file_refusal bytes.now }
+    ensures value { IfOk result (λ c. c ≡ bytes.now) }
 {
-    if !well_formed(file) {
+    let Some(file) = ProjectFile::read(bytes) else {
         return Err(Refusal::NotWellFormed);
-    }
-    check_contents(file)
+    };
+    check_contents(&file)?;
+    Ok(CheckedFile { file })
 }

@@ -11,7 +11,7 @@ ghost use Rattle.scores.specs.Scores.{score_of};
 use std::cmp::Ordering;
 
 // A candidate of no sheets has no fitness.
-#[derive(Clone, Copy)]
+#[derive(Clone, Copy, Default)]
 pub struct CandidateScore {
     pub used_stock_count: usize,
     pub waste_area: u64,

@@ -6,16 +6,16 @@ use mathlib.Core.Path.{◌≡◌, refl, sym, ap, ◌∙◌, subst}
 use mathlib.Core.List.{List, [], ◌∷◌, ◌++◌, map, Memᴰ}
 use mathlib.Core.Option.{Option, some}
 use lib.ListN.{length, get_or, take}
-use lib.Seq.{take-suc, take_all, take_at}
+use lib.Seq.{take-suc, take_all}
 use Rattle.lists.specs.Base.{◌>>=◌, to_list, range, concat_map, sort_by}
-use Rattle.lists.proofs.Perm.{Perm, perm_sym, All, all_map, all_perm, length_perm, sort_by_perm}
-use Rattle.lists.proofs.Sums.{length_count_from}
+use Rattle.lists.proofs.Perm.{Perm, perm_sym, All, all_perm, sort_by_perm}
+use Rattle.lists.proofs.Sums.{length-map}
 use Rattle.lists.proofs.Counts.{range_below}
 use Rattle.lists.proofs.Every.{get_mem, map_all}
-use Rattle.lists.proofs.Maps.{map_same, map-map, concat_map_snoc}
+use Rattle.lists.proofs.Maps.{map-map, concat_map_snoc}
 use Rattle.model.specs.declared.BaselineGuillotineHeuristic.{BaselineGuillotineHeuristic}
-use Rattle.model.specs.declared.CandidateSeed.{CandidateSeed}
 use Rattle.model.specs.declared.CutInstance.{CutInstance}
+use Rattle.model.specs.declared.Rect.{Rect}
 use Rattle.model.specs.Types.{cut_key}
 use Rattle.model.specs.Candidate.{Candidate, new_candidate, cuts_for_keys, place_cuts}
 use Rattle.model.specs.Expand.{ProblemInstance, compare_cut}
@@ -23,16 +23,16 @@ use Rattle.model.specs.Search.{SearchNumbers, Seed, initial_seeds, candidate_fro
 use Rattle.trust.proofs.Keys.{cuts_for_keys_known}
 use Rattle.trust.proofs.Winner.{Admitted}
 use Rattle.trust.proofs.Ranges.{Ranged}
-use Rattle.rows.specs.Rows.{cut_words, cut_at}
-use Rattle.orders.specs.Order.{compare_at, sorted_order}
+use Rattle.orders.specs.declared.Head.{Head}
+use Rattle.orders.specs.Order.{head_of_cut, compare_at, sorted_order, IsOrder}
 use Rattle.candidate.specs.declared.Candidate.{Candidate as Words}
-use Rattle.candidate.specs.declared.Instance.{Instance}
 use Rattle.candidate.specs.Moves.{new_words}
-use Rattle.candidate.specs.Stands.{instance_in, no_cut, cut_in, candidate_in}
-use Rattle.candidate.proofs.Instances.{cut_count, cut_in_lem}
+use Rattle.candidate.specs.Stands.{candidate_in}
+use Rattle.problem.specs.Problem.{no_cut, cut_in}
 use Rattle.candidate.proofs.Start.{new_is}
 use Rattle.placing.specs.Placing.{PlacesCuts}
-use Rattle.seeds.specs.Seeds.{places_of, seed_in, InOrder, no_seed, IsSeed}
+use Rattle.seeds.specs.declared.CandidateSeed.{CandidateSeed}
+use Rattle.seeds.specs.Seeds.{seed_in, InOrder, no_seed, IsSeed}
 use Rattle.stored.specs.Slots.{slot_words, store_in}
 use Rattle.stored.specs.Populations.{Holds, OnlySlots}
 use Rattle.stored.proofs.Populations.{only_none, population_none, standing_none}
@@ -41,9 +41,9 @@ use Rattle.search.proofs.Passes.{pushed_holds, pushed_within}
 
 -- ---- a candidate from a seed
 
-module _ (inst : ProblemInstance) (a : Admitted inst) (ranged : Ranged inst) (seed : CandidateSeed) (once : Perm (places_of inst seed.cut_order) (range (length inst.cuts))) where
+module _ (inst : ProblemInstance) (a : Admitted inst) (ranged : Ranged inst) (seed : CandidateSeed) (once : Perm seed.cut_order.items (range (length inst.cuts))) where
   abbrev places : List ℕ
-  places = places_of inst seed.cut_order
+  places = seed.cut_order.items
 
   known : All (λ c. Memᴰ c inst.cuts) (map (cut_in inst) places)
   unfolding cut_in
@@ -54,9 +54,9 @@ module _ (inst : ProblemInstance) (a : Admitted inst) (ranged : Ranged inst) (se
   found : cuts_for_keys inst.cuts (map (λ k. cut_key (cut_in inst k)) places) ≡ some (map (cut_in inst) places)
   found = ap (cuts_for_keys inst.cuts) (sym (map-map cut_key (cut_in inst) places)) ∙ cuts_for_keys_known inst.cuts (map (cut_in inst) places) a.own_panels known
 
-  pub seed_made : (before after : List ℕ) (r : Words) → PlacesCuts inst seed.heuristic new_words places before after r → FromSeed inst seed r
+  pub seed_made : (after : List (List Rect)) (r : Words) → PlacesCuts inst seed.heuristic new_words places after r → FromSeed inst seed r
   unfolding candidate_from_seed seed_in
-  seed_made before after r p =
+  seed_made after r p =
       let place : List CutInstance → Candidate = place_cuts inst.kerf_width seed.heuristic (new_candidate inst.stock) in
       record {
         is = ap (λ (o : Option (List CutInstance)). o >>= λ cuts. some (place cuts)) found
@@ -92,30 +92,15 @@ module _ (rows : List BaselineGuillotineHeuristic) (inst : ProblemInstance) (n :
 
 -- ---- the sorted order
 
-module _ (stock cuts : List ℕ) (n : Instance) where
-  abbrev inst : ProblemInstance
-  inst = instance_in stock cuts n
-
-  -- what `orders::sorted_cut_order` says of an order of the table's rows, in the instance's terms
-  pub in_order : (order : List ℕ) (rest : List ℕ) → order ≡ sorted_order cut_words cuts n.cuts ++ rest
-      → map (cut_at cuts) (take n.cuts order) ≡ sort_by compare_cut (map (cut_at cuts) (range n.cuts)) → InOrder inst order
-  unfolding instance_in
-  in_order order rest e s =
-      let count : length inst.cuts ≡ n.cuts = cut_count stock cuts n in
-      let places : take (length inst.cuts) order ≡ take n.cuts order = ap (λ (m : ℕ). take m order) count in
-      let perm : Perm (take n.cuts order) (range n.cuts) = subst (λ (l : List ℕ). Perm l (range n.cuts)) (sym (ap (take n.cuts) e ∙ take_at (sorted_order cut_words cuts n.cuts) rest n.cuts sorted_length)) sorted_perm in
-      record {
-        once = subst (λ (m : ℕ). Perm (take m order) (range m)) (sym count) perm;
-        sorted = ap (map (cut_in inst)) places
-            ∙ map_same (cut_at cuts) (cut_in inst) (take n.cuts order) (all_map (λ k. k < n.cuts) (λ k. cut_in inst k ≡ cut_at cuts k) (λ k h. cut_in_lem stock cuts n k h) (take n.cuts order) (all_perm (λ k. k < n.cuts) (perm_sym perm) (range_below n.cuts)))
-            ∙ s;
-      }
-    where
-      sorted_perm : Perm (sorted_order cut_words cuts n.cuts) (range n.cuts)
-      sorted_perm = unfold sorted_order in sort_by_perm (compare_at cut_words cuts) (range n.cuts)
-
-      sorted_length : length (sorted_order cut_words cuts n.cuts) ≡ n.cuts
-      sorted_length = length_perm sorted_perm ∙ length_count_from 0 n.cuts
+-- what `orders::sorted_cut_order` says of an order of the cuts
+pub in_order : (inst : ProblemInstance) (order : List ℕ) → IsOrder (map head_of_cut inst.cuts) order → map (λ k. get_or inst.cuts k no_cut) order ≡ sort_by compare_cut inst.cuts → InOrder inst order
+unfolding cut_in sorted_order
+in_order inst order e s =
+    let heads : List Head = map head_of_cut inst.cuts in
+    record {
+      once = rw e (subst (λ (m : ℕ). Perm (sorted_order heads (length heads)) (range m)) (length-map head_of_cut inst.cuts) (sort_by_perm (compare_at heads) (range (length heads))));
+      sorted = s;
+    }
 
 -- ---- in slots
 

@@ -3,28 +3,30 @@ use mathlib.Core.Path.{◌≡◌, refl, sym, ap, ◌∙◌, subst}
 use mathlib.Core.Logic.{inr}
 use mathlib.Core.List.{List, [], ◌∷◌, ◌++◌, map}
 use mathlib.Core.Option.{get_or}
-use Prim.Native.Nat.{ℕ, ◌+◌, ◌*◌, ◌≤◌}
+use Prim.Native.Nat.{ℕ, ◌+◌, ◌*◌, ◌≤◌, ◌<◌}
 use native.Mathlib.Omega.{arith}
 use lib.ListN.{length}
 use Rattle.lists.proofs.Perm.{all_map, in_all}
 use Rattle.lists.proofs.Sums.{map_append}
 use Rattle.model.specs.declared.BaselineGuillotineHeuristic.{BaselineGuillotineHeuristic}
+use Rattle.model.specs.declared.Rect.{Rect}
 use Rattle.model.specs.Sheet.{GuillotineSheet, new_sheet, rebuild}
 use Rattle.model.specs.Candidate.{Candidate, reinsert_unused_first_fit, compact_worst_bin}
 use Rattle.model.specs.Expand.{ProblemInstance}
 use Rattle.model.specs.Search.{repair_population, compact_population}
 use Rattle.candidate.specs.declared.Candidate.{Candidate as Words}
 use Rattle.candidate.specs.Entries.{on_board}
-use Rattle.candidate.specs.Stands.{board_in, insertion_in, making_in, bin_in, sheet_boards, placed_words, candidate_in, Stands}
-use Rattle.placing.specs.Blocks.{ShowsBin, Shown}
+use Rattle.candidate.specs.Stands.{insertion_in, making_in, bin_in, sheet_boards, placed_words, candidate_in, Stands}
+use Rattle.problem.specs.Problem.{board_in}
+use Rattle.placing.specs.Bins.{ShowsBin, Shown}
 use Rattle.variation.specs.Compact.{SameSheet, Compacted}
 use Rattle.stored.specs.Slots.{slot_words, store_in}
-use Rattle.stored.specs.Populations.{words_at, candidate_at, population_in, Holds, OnlySlots}
-use Rattle.stored.proofs.Populations.{slot_kept, only_wider, only_none, only_then, same_slot, population_none, standing_none, population_snoc, pushed_only, pushed_population, pushed_stands}
+use Rattle.stored.specs.Populations.{words_at, StandsAt, candidate_at, population_in, AllStand, Holds, OnlySlots}
+use Rattle.stored.proofs.Populations.{slot_kept, only_wider, only_none, only_then, same_slot, stands_as, standing_at, population_none, standing_none, population_snoc, pushed_only, pushed_population, pushed_stands}
 use Rattle.search.specs.Improved.{improved, Improves}
 
--- words that show a candidate's sheets show those that a compaction leaves
-module _ (inst : ProblemInstance) (free : List ℕ) (c r : Words) (k : Compacted inst c r) (s : Shown inst free c) where
+-- free rectangles that show a candidate's sheets show those that a compaction leaves
+module _ (inst : ProblemInstance) (free : List (List Rect)) (c r : Words) (k : Compacted inst c r) (s : Shown inst free c) where
   same_bin : (b : ℕ) → on_board b (placed_words r) ≡ on_board b (placed_words c) → bin_in inst (placed_words r) b ≡ bin_in inst (placed_words c) b
   unfolding bin_in making_in
   same_bin b e = ap (λ (l : List ℕ). get_or (rebuild inst.kerf_width (board_in inst b) (map (insertion_in inst) l)) (new_sheet (board_in inst b))) e
@@ -32,7 +34,6 @@ module _ (inst : ProblemInstance) (free : List ℕ) (c r : Words) (k : Compacted
   pub compacted_shown : Shown inst free r
   compacted_shown =
       record {
-        room = s.room;
         sheets = all_map (SameSheet c r) (ShowsBin inst (placed_words r) free)
             (λ b m. in_all (ShowsBin inst (placed_words c) free) (sheet_boards c) s.sheets m.0 ∙ ap (λ (t : GuillotineSheet). t.free_rects) (sym (same_bin b m.1)))
             (sheet_boards r) k.kept;
@@ -77,6 +78,9 @@ module _ (inst : ProblemInstance) (h : BaselineGuillotineHeuristic) (before ws :
   -- the next one is still as it was
   pub next_words : words_at inst ws (base + k) ≡ words_at inst before (base + k)
   next_words = same_slot inst before ws (base + k) (slot_kept base (base + k) before ws i.only (base + k) (inr (omega arith)))
+
+  pub next_stands : (n : ℕ) → AllStand inst before base n → k < n → StandsAt inst ws (base + k)
+  next_stands n s l = stands_as inst before ws (base + k) (base + k) (slot_kept base (base + k) before ws i.only (base + k) (inr (omega arith))) (standing_at inst before base n k s l)
 
   pub improved_step : (after : List ℕ) (c d : Words) → slot_words * (base + k) + slot_words ≤ length ws → length inst.cuts ≤ 64 → c ≡ words_at inst before (base + k)
       → Improves inst h c d → after ≡ store_in ws (base + k) d → ImprovedTo inst h before base (k + 1) after

@@ -7,7 +7,7 @@ use mathlib.Core.Path.{◌≡◌, refl, sym, ap, ap₂, ◌∙◌, subst}
 use mathlib.Core.Logic.{inl}
 use mathlib.Core.List.{List, [], ◌∷◌, ◌++◌, append-nil, append_assoc}
 use mathlib.Core.Option.{Option}
-use lib.ListN.{length, get_or, drop, length-drop}
+use lib.ListN.{length, drop, length-drop}
 use lib.Seq.{drop-cons}
 use Rattle.lists.specs.Base.{to_list}
 use Rattle.model.specs.declared.BaselineGuillotineHeuristic.{BaselineGuillotineHeuristic}
@@ -15,10 +15,10 @@ use Rattle.model.specs.Candidate.{Candidate, new_candidate}
 use Rattle.model.specs.Expand.{ProblemInstance}
 use Rattle.model.specs.Search.{child_of, children, crossover_population}
 use Rattle.candidate.specs.declared.Candidate.{Candidate as Words}
-use Rattle.candidate.specs.Stands.{candidate_in, Stands}
-use Rattle.stored.specs.Slots.{slot_words, slot_of, stored_in, store_in}
-use Rattle.stored.specs.Populations.{words_at, candidate_at, population_in, AllStand, Holds, OnlySlots}
-use Rattle.stored.proofs.Populations.{slot_kept, only_wider, only_none, only_then, same_slot, load_fits, standing_at, population_length, population_at, pushed_only}
+use Rattle.candidate.specs.Stands.{candidate_in}
+use Rattle.stored.specs.Slots.{slot_words, slot_of, store_in}
+use Rattle.stored.specs.Populations.{words_at, StandsAt, candidate_at, population_in, AllStand, Holds, OnlySlots}
+use Rattle.stored.proofs.Populations.{slot_kept, only_wider, only_none, only_then, same_slot, stands_as, standing_at, population_length, population_at, pushed_only}
 use Rattle.variation.specs.Children.{IsChild}
 use Rattle.search.proofs.Passes.{pushed_holds}
 use Rattle.search.specs.Regions.{PushesChild}
@@ -56,28 +56,17 @@ pub record CrossedTo (inst : ProblemInstance) (h : BaselineGuillotineHeuristic) 
   pub least : count ≤ size
   pub most : 2 * size ≤ 2 * count + i
 
-pub crossed_none : (inst : ProblemInstance) (h : BaselineGuillotineHeuristic) (ws : List ℕ) (base count : ℕ) → AllStand inst ws base count → CrossedTo inst h ws base count 0 count ws
-crossed_none inst h ws base count s =
-    record {
-      done = [];
-      holds = record { is = sym (append-nil (population_in inst ws base count)); stands = s };
-      rest = refl;
-      only = only_none (base + count) (base + 48) ws;
-      least = omega arith;
-      most = omega arith;
-    }
-
 module _ (inst : ProblemInstance) (h : BaselineGuillotineHeuristic) (before ws : List ℕ) (base count i size : ℕ) (c : CrossedTo inst h before base count i size ws) where
   -- the parents are as they were
-  pub parent_words : (k : ℕ) → k < count → words_at inst ws (base + k) ≡ words_at inst before (base + k)
-  parent_words k l = same_slot inst before ws (base + k) (slot_kept (base + count) (base + 48) before ws c.only (base + k) (inl (omega arith)))
+  module _ (k slot : ℕ) (at : slot ≡ base + k) (l : k < count) where
+    parent_slot : slot_of ws (base + k) ≡ slot_of before (base + k)
+    parent_slot = slot_kept (base + count) (base + 48) before ws c.only (base + k) (inl (omega arith))
 
-  pub parent_fits : AllStand inst before base count → (n k : ℕ) → length inst.cuts ≡ n → k < count → get_or (slot_of ws (base + k)) 1 0 ≤ n
-  parent_fits s n k e l =
-      subst (λ (m : ℕ). get_or (slot_of ws (base + k)) 1 0 ≤ m) e (load_fits inst ws (base + k) (subst (Stands inst []) (sym (parent_words k l)) (standing_at inst before base count k s l)))
+    pub parent_stands : AllStand inst before base count → StandsAt inst ws slot
+    parent_stands s = subst (StandsAt inst ws) (sym at) (stands_as inst before ws (base + k) (base + k) parent_slot (standing_at inst before base count k s l))
 
-  pub parent_loaded : (n k : ℕ) (w : Words) → length inst.cuts ≡ n → k < count → w ≡ stored_in ws (base + k) n → w ≡ words_at inst before (base + k)
-  parent_loaded n k w e l f = f ∙ ap (stored_in ws (base + k)) (sym e) ∙ parent_words k l
+    pub parent_loaded : (w : Words) → w ≡ words_at inst ws slot → w ≡ words_at inst before (base + k)
+    parent_loaded w e = e ∙ ap (words_at inst ws) at ∙ same_slot inst before ws (base + k) parent_slot
 
   abbrev parents : List Candidate
   parents = population_in inst before base count

@@ -1,7 +1,7 @@
 -- The rounds of a search, and the choice after the last.
 use Prim.Native.Nat.{ℕ, suc, ◌+◌, ◌-◌, ◌*◌, ◌≤◌, ◌<◌}
 use native.Mathlib.Omega.{arith}
-use mathlib.Core.Path.{◌≡◌, refl, sym, ap, ◌∙◌}
+use mathlib.Core.Path.{◌≡◌, sym, ap, ◌∙◌, subst}
 use mathlib.Core.Logic.{inl, inr}
 use mathlib.Core.List.{List, map}
 use lib.ListN.{length}
@@ -50,27 +50,16 @@ module _ (inst : ProblemInstance) (h : BaselineGuillotineHeuristic) (survivors :
     pub rest : run_generations inst h survivors (rounds - round) (population_in inst ws base count) ≡ run_generations inst h survivors rounds first
     pub only : OnlySlots 0 96 before ws
 
-  pub run_none : (rounds : ℕ) (first : List Candidate) (before ws : List ℕ) (count : ℕ) → Holds inst ws 0 count first → count ≤ 32 → OnlySlots 0 96 before ws → RunTo rounds first before 0 0 count ws
-  run_none rounds first before ws count k few o =
-      let z : rounds - 0 ≡ rounds = omega arith in
-      record {
-        region = inl refl;
-        few = few;
-        stands = k.stands;
-        rest = ap (λ (m : ℕ). run_generations inst h survivors m (population_in inst ws 0 count)) z ∙ ap (run_generations inst h survivors rounds) k.is;
-        only = o;
-      }
-
   module _ (rounds : ℕ) (first : List Candidate) (before : List ℕ) (round base count : ℕ) (ws : List ℕ) (u : RunTo rounds first before round base count ws) where
-    pub run_step : (after : List ℕ) (r : ℕ) → round < rounds → survivors ≤ 32 → Holds inst after (48 - base) r (generation inst h survivors (population_in inst ws base count)) → OnlySlots 0 96 ws after
-        → RunTo rounds first before (round + 1) (48 - base) r after
+    pub run_step : (after : List ℕ) (to r : ℕ) → to ≡ 48 - base → round < rounds → survivors ≤ 32 → Holds inst after to r (generation inst h survivors (population_in inst ws base count)) → OnlySlots 0 96 ws after
+        → RunTo rounds first before (round + 1) to r after
     unfolding run_generations
-    run_step after r here few k o =
+    run_step after to r there here few k o =
         let next : rounds - round ≡ suc (rounds - (round + 1)) = omega arith in
         let population : List Candidate = population_in inst ws base count in
         record {
-          region = other base u.region;
-          few = omega (arith, population_length inst after (48 - base) r, ap length k.is, generation_most population);
+          region = subst Region (sym there) (other base u.region);
+          few = omega (arith, population_length inst after to r, ap length k.is, generation_most population);
           stands = k.stands;
           rest = ap (run_generations inst h survivors (rounds - (round + 1))) k.is
               ∙ ap (λ (m : ℕ). run_generations inst h survivors m population) (sym next)

@@ -2,12 +2,12 @@
 use Rattle.std.specs.Prelude.{◌≡◌, []}
 use Rattle.std.proofs.Math.Option.{some}
 use Rattle.model.specs.declared.BaselineGuillotineHeuristic.{BaselineGuillotineHeuristic}
-use Rattle.model.specs.declared.CandidateSeed.{CandidateSeed}
 use Rattle.model.specs.Candidate.{Candidate, reinsert_unused_first_fit, compact_worst_bin}
 use Rattle.model.specs.Expand.{ProblemInstance}
 use Rattle.model.specs.Search.{candidate_from_seed}
 use Rattle.candidate.specs.declared.Candidate.{Candidate as Words}
 use Rattle.candidate.specs.Stands.{candidate_in, Stands}
+use Rattle.seeds.specs.declared.CandidateSeed.{CandidateSeed}
 use Rattle.seeds.specs.Seeds.{seed_in}
 
 -- candidate_from_seed: every cut of the seed is in the catalogue

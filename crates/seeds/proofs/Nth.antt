@@ -1,9 +1,9 @@
 -- The seeds one by one: those of the sorted order, one for each row that is used, and then the shuffles.
 use Rattle.std.specs.Prelude.{if◌then◌else◌}
-use Rattle.std.proofs.Common.{◌≡◌, ℕ, zero, suc, ◌+◌, ◌-◌, ◌<◌, ◌≤◌, Bool, true, false, List, [], ◌∷◌, ◌++◌, map, length, get_or, drop, sym, refl, ap, ◌∙◌, subst, not-suc-le-zero, arith, length-append, take_at, get_or-append-add}
+use Rattle.std.proofs.Common.{◌≡◌, ℕ, zero, suc, ◌+◌, ◌-◌, ◌<◌, ◌≤◌, Bool, true, false, List, [], ◌∷◌, ◌++◌, map, length, get_or, sym, refl, ap, ◌∙◌, subst, not-suc-le-zero, arith, length-append, get_or-append-add}
 use lib.ListN.{get_or-append, get_or-eq_default}
 use Rattle.lists.specs.Base.{range}
-use Rattle.lists.proofs.Perm.{Perm, also, length_perm}
+use Rattle.lists.proofs.Perm.{Perm, also}
 use Rattle.lists.proofs.Sums.{length-map, length_count_from}
 use Rattle.lists.proofs.Maps.{get_d_map, map-map}
 use Rattle.lists.proofs.Counts.{get_or_count}
@@ -16,10 +16,10 @@ use Rattle.model.specs.Expand.{ProblemInstance, sorted_cut_order, shuffle_cut_or
 use Rattle.model.specs.Search.{SearchNumbers as Numbers, Seed, default_heuristic, other_heuristics, sorted_seed, variant_seeds, shuffled_seed, initial_seeds}
 use Rattle.shuffle.specs.Shuffle.{shuffled}
 use Rattle.shuffle.proofs.Shuffle.{shuffled_perm, shuffled_keys}
-use Rattle.candidate.specs.Stands.{cut_in}
+use Rattle.problem.specs.Problem.{cut_in}
 use Rattle.seeds.specs.declared.SearchNumbers.{SearchNumbers}
 use Rattle.seeds.specs.Rows.{numbers_of, sorted_seeds}
-use Rattle.seeds.specs.Seeds.{places_of, seed_in, InOrder, no_seed, IsSeed}
+use Rattle.seeds.specs.Seeds.{seed_in, InOrder, no_seed, IsSeed}
 
 -- ---- the seeds in two parts
 
@@ -125,35 +125,30 @@ module _ (rows : List BaselineGuillotineHeuristic) (n : SearchNumbers) where
   -- ---- as seeds of places
 
   module _ (inst : ProblemInstance) (sorted : List ℕ) (o : InOrder inst sorted) (k : ℕ) (h : BaselineGuillotineHeuristic) where
-    keys : map (λ p. cut_key (cut_in inst p)) (places_of inst sorted) ≡ sorted_cut_order inst.cuts
+    keys : map (λ p. cut_key (cut_in inst p)) sorted ≡ sorted_cut_order inst.cuts
     unfolding sorted_cut_order
-    keys = sym (map-map cut_key (cut_in inst) (places_of inst sorted)) ∙ ap (map cut_key) o.sorted
+    keys = sym (map-map cut_key (cut_in inst) sorted) ∙ ap (map cut_key) o.sorted
 
-    pub is_sorted : k < sorted_seeds rows n → h ≡ row_at rows k → IsSeed rows inst (numbers_of n) k (record { cut_order = sorted; heuristic = h })
+    pub is_sorted : k < sorted_seeds rows n → h ≡ row_at rows k → IsSeed rows inst (numbers_of n) k (record { cut_order = record { items = sorted }; heuristic = h })
     unfolding seed_in sorted_seed
     is_sorted l e = record { is = made ∙ sym (nth_sorted inst.cuts k l); once = o.once }
       where
-        made : seed_in inst (record { cut_order = sorted; heuristic = h }) ≡ sorted_seed inst.cuts (row_at rows k)
+        made : seed_in inst (record { cut_order = record { items = sorted }; heuristic = h }) ≡ sorted_seed inst.cuts (row_at rows k)
         made = λ i. record { cut_order = keys i; heuristic = e i }
 
     pub is_shuffled : (seed : ℕ) (order : List ℕ) → sorted_seeds rows n ≤ k → k < sorted_seeds rows n + n.shuffles → seed ≡ wrap (n.first_seed + (k - sorted_seeds rows n)) → h ≡ row_at rows 0
-        → order ≡ shuffled 0 seed (places_of inst sorted) ++ drop (length inst.cuts) sorted
-        → IsSeed rows inst (numbers_of n) k (record { cut_order = order; heuristic = h })
+        → order ≡ shuffled 0 seed sorted
+        → IsSeed rows inst (numbers_of n) k (record { cut_order = record { items = order }; heuristic = h })
     unfolding seed_in shuffled_seed shuffle_cut_order numbers_of
-    is_shuffled seed order f l s g e = record { is = made ∙ sym (nth_shuffled inst.cuts k f l); once = subst (λ (p : List ℕ). Perm p (range (length inst.cuts))) (sym front) perm }
+    is_shuffled seed order f l s g e = record { is = made ∙ sym (nth_shuffled inst.cuts k f l); once = subst (λ (p : List ℕ). Perm p (range (length inst.cuts))) (sym e) perm }
       where
-        perm : Perm (shuffled 0 seed (places_of inst sorted)) (range (length inst.cuts))
-        perm = also (shuffled_perm 0 seed (places_of inst sorted)) o.once
+        perm : Perm (shuffled 0 seed sorted) (range (length inst.cuts))
+        perm = also (shuffled_perm 0 seed sorted) o.once
 
-        front : places_of inst order ≡ shuffled 0 seed (places_of inst sorted)
-        front =
-            ap (places_of inst) e
-            ∙ take_at (shuffled 0 seed (places_of inst sorted)) (drop (length inst.cuts) sorted) (length inst.cuts) (length_perm perm ∙ length_count_from 0 (length inst.cuts))
-
-        made : seed_in inst (record { cut_order = order; heuristic = h }) ≡ shuffled_seed inst.cuts (row_at rows 0) (numbers_of n) (k - sorted_seeds rows n)
+        made : seed_in inst (record { cut_order = record { items = order }; heuristic = h }) ≡ shuffled_seed inst.cuts (row_at rows 0) (numbers_of n) (k - sorted_seeds rows n)
         made =
             let key : ℕ → InstanceKey = λ p. cut_key (cut_in inst p) in
-            let shuffle : map key (places_of inst order) ≡ shuffle_cut_order inst.cuts (wrap (n.first_seed + (k - sorted_seeds rows n))) =
-            ap (map key) front ∙ shuffled_keys key seed (places_of inst sorted) (sorted_cut_order inst.cuts) keys ∙ ap (shuffle_cut_order inst.cuts) s
+            let shuffle : map key order ≡ shuffle_cut_order inst.cuts (wrap (n.first_seed + (k - sorted_seeds rows n))) =
+            ap (map key) e ∙ shuffled_keys key seed sorted (sorted_cut_order inst.cuts) keys ∙ ap (shuffle_cut_order inst.cuts) s
             in
             λ i. record { cut_order = shuffle i; heuristic = g i }

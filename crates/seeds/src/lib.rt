@@ -2,7 +2,7 @@
 // `initial_candidate_seeds`.
 #![tactic(auto)]
 
-ghost use Rattle.std.specs.Prelude.{◌≡◌, ◌+◌, ◌<◌, ◌≤◌, List, [], ◌++◌, length, take, drop, slice_index_or};
+ghost use Rattle.std.specs.Prelude.{◌≡◌, ◌+◌, ◌<◌, ◌≤◌, List, [], length, slice_index_or};
 ghost use Rattle.model.specs.declared.CutInstance.{CutInstance};
 ghost use Rattle.model.specs.Expand.{ProblemInstance};
 ghost use Rattle.model.specs.Search.{heuristic, search_numbers, heuristic_variants, default_heuristic, initial_seeds};
@@ -10,12 +10,20 @@ ghost use Rattle.shuffle.specs.Shuffle.{shuffled};
 ghost use Rattle.seeds.specs.Rows.{numbers_of, sorted_seeds};
 ghost use Rattle.seeds.specs.Seeds.{InOrder, IsSeed};
 
+use arrayvec::ArrayVec;
 use model::{
-    BaselineGuillotineHeuristic, CandidateSeed, GuillotineRectChoice, GuillotineSplitHeuristic,
-    OptimizerEffort, RotationPreference,
+    BaselineGuillotineHeuristic, GuillotineRectChoice, GuillotineSplitHeuristic, OptimizerEffort,
+    RotationPreference,
 };
 
-// What is left of PopulationPipelineConfig: max_candidates cuts nothing off.
+// An order of the cuts, each by its place in the catalogue, and the heuristic that places them.
+#[derive(Drop)]
+pub struct CandidateSeed {
+    pub cut_order: ArrayVec<u32, 64>,
+    pub heuristic: BaselineGuillotineHeuristic,
+}
+
+// What is left of PopulationPipelineConfig: max_candidates cuts nothing off. `variants` is a setting, beside which no value stands.
 #[derive(Clone, Copy)]
 pub struct SearchNumbers {
     pub variants: bool,
@@ -118,6 +126,9 @@ pub fn default_heuristic(rows: &[BaselineGuillotineHeuristic]) -> BaselineGuillo
 
 // ---- seeds
 
+// Rows and numbers are apart as in the source, where the rows are the backend's and the numbers the config's. Their limits are clauses of what
+// needs them: the seeds alone have none.
+
 // How many seeds have the sorted order: one, and with variants one for each row.
 fn sorted_seeds(rows: &[BaselineGuillotineHeuristic], n: SearchNumbers) -> usize
     ensures { result ≡ sorted_seeds rows.now n }
@@ -133,36 +144,34 @@ pub fn seed_count(rows: &[BaselineGuillotineHeuristic], n: SearchNumbers) -> usi
 }
 
 // shuffle_cut_order of an order that is sorted already.
-fn shuffled_order(sorted: [u32; 64], cuts: usize, seed: u64) -> [u32; 64]
-    requires { cuts ≤ 64 }
-    ensures { result ≡ shuffled 0 seed (take cuts sorted) ++ drop cuts sorted }
+fn shuffled_order(sorted: &ArrayVec<u32, 64>, seed: u64) -> ArrayVec<u32, 64>
+    ensures { result.items ≡ shuffled 0 seed sorted.now.items }
 {
-    let mut order = sorted;
-    shuffle::shuffle_cut_order(&mut order[..cuts], seed);
+    let mut order = copying::listed(sorted.as_slice());
+    shuffle::shuffle_cut_order(order.as_mut_slice(), seed);
     order
 }
 
 // The k-th of initial_candidate_seeds, from the sorted order.
 pub fn initial_candidate_seed(
-    sorted: [u32; 64],
-    cuts: usize,
+    sorted: &ArrayVec<u32, 64>,
     rows: &[BaselineGuillotineHeuristic],
     n: SearchNumbers,
     k: usize,
 ) -> CandidateSeed
-    requires { (cuts ≤ 64) × (k < sorted_seeds rows.now n + n.shuffles) }
-    ensures { (inst : ProblemInstance) → length inst.cuts ≡ cuts → InOrder inst sorted → IsSeed rows.now inst (numbers_of n) k result }
+    requires { k < sorted_seeds rows.now n + n.shuffles }
+    ensures { (inst : ProblemInstance) → InOrder inst sorted.now.items → IsSeed rows.now inst (numbers_of n) k result }
 {
     let first = sorted_seeds(rows, n);
     if k < first {
         return CandidateSeed {
-            cut_order: sorted,
+            cut_order: copying::listed(sorted.as_slice()),
             heuristic: heuristic_at(rows, k),
         };
     }
     let seed = n.first_seed.wrapping_add((k - first) as u64);
     CandidateSeed {
-        cut_order: shuffled_order(sorted, cuts, seed),
+        cut_order: shuffled_order(sorted, seed),
         heuristic: heuristic_at(rows, 0),
     }
 }

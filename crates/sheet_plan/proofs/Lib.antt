@@ -1,4 +1,5 @@
 -- Laws that belong to no one function.
+pub mod Parts
 pub mod Making
 pub mod Steps
 pub mod Turns

@@ -1,5 +1,5 @@
 -- The making of a sheet among a candidate's insertions: its beginnings make the sheet's earlier states, each within its ranges.
-use Prim.Native.Nat.{ℕ, ◌+◌, ◌*◌, ◌≤◌, ◌<◌}
+use Prim.Native.Nat.{ℕ, ◌+◌, ◌≤◌, ◌<◌}
 use native.Mathlib.Numerals.{add-one}
 use native.Mathlib.Omega.{arith}
 use mathlib.Core.Path.{◌≡◌, refl, sym, ap, ◌∙◌}
@@ -21,11 +21,9 @@ use Rattle.trust.proofs.Placing.{at_place}
 use Rattle.trust.proofs.Sheet.{try_insert_inserted, all_inserted}
 use Rattle.trust.proofs.Ranges.{BoardRange, PanelRange, Ranged}
 use Rattle.trust.proofs.Bounded.{Bounded, new_bounded, try_insert_bounded}
-use Rattle.rows.specs.Rows.{stock_words, stock_at}
-use Rattle.candidate.specs.declared.Instance.{Instance}
 use Rattle.candidate.specs.Entries.{board_of, cut_of, on_board}
-use Rattle.candidate.specs.Stands.{instance_in, Tables, board_in, cut_in, insertion_in, making_in, bin_in, no_stock, no_cut}
-use Rattle.candidate.proofs.Instances.{stock_count, board_in_lem}
+use Rattle.candidate.specs.Stands.{insertion_in, making_in, bin_in}
+use Rattle.problem.specs.Problem.{board_in, cut_in, no_stock, no_cut}
 use Rattle.candidate.proofs.Makings.{on_none, rebuilt_bin, bin_bare, bin_other, rebuilt_more}
 use Rattle.sheet_plan.specs.Replaying.{Rebuildable}
 
@@ -60,19 +58,16 @@ module _ (inst : ProblemInstance) (b : ℕ) where
 
   -- ---- the sheet that some of them make, and those behind
 
-  abbrev kerf : ℕ
-  kerf = inst.kerf_width
-
   record Begun (xs ys : List ℕ) : Type 0 where
-    made : rebuild kerf (board_in inst b) (making_in inst xs b) ≡ some (bin_in inst xs b)
-    rest : fold_option (try_insert kerf) (bin_in inst xs b) (making_in inst ys b) ≡ some (bin_in inst (xs ++ ys) b)
+    made : rebuild inst.kerf_width (board_in inst b) (making_in inst xs b) ≡ some (bin_in inst xs b)
+    rest : fold_option (try_insert inst.kerf_width) (bin_in inst xs b) (making_in inst ys b) ≡ some (bin_in inst (xs ++ ys) b)
 
-  begun : (xs ys : List ℕ) → rebuild kerf (board_in inst b) (making_in inst (xs ++ ys) b) ≡ some (bin_in inst (xs ++ ys) b) → Begun xs ys
+  begun : (xs ys : List ℕ) → rebuild inst.kerf_width (board_in inst b) (making_in inst (xs ++ ys) b) ≡ some (bin_in inst (xs ++ ys) b) → Begun xs ys
   unfolding rebuild
   begun xs ys e =
-      let whole : fold_option (try_insert kerf) (new_sheet (board_in inst b)) (making_in inst xs b ++ making_in inst ys b) ≡ some (bin_in inst (xs ++ ys) b) = rw (making_append xs ys) at e in
-      let p = through (fold_option (try_insert kerf) (new_sheet (board_in inst b)) (making_in inst xs b)) (λ s. fold_option (try_insert kerf) s (making_in inst ys b)) (bin_in inst (xs ++ ys) b)
-      (sym (fold_append (try_insert kerf) (new_sheet (board_in inst b)) (making_in inst xs b) (making_in inst ys b)) ∙ whole)
+      let whole : fold_option (try_insert inst.kerf_width) (new_sheet (board_in inst b)) (making_in inst xs b ++ making_in inst ys b) ≡ some (bin_in inst (xs ++ ys) b) = rw (making_append xs ys) at e in
+      let p = through (fold_option (try_insert inst.kerf_width) (new_sheet (board_in inst b)) (making_in inst xs b)) (λ s. fold_option (try_insert inst.kerf_width) s (making_in inst ys b)) (bin_in inst (xs ++ ys) b)
+      (sym (fold_append (try_insert inst.kerf_width) (new_sheet (board_in inst b)) (making_in inst xs b) (making_in inst ys b)) ∙ whole)
       in
       let same : bin_in inst xs b ≡ p.value = rebuilt_bin inst xs b p.value p.first in
       record { made = p.first ∙ ap some (sym same); rest = rw same p.rest }
@@ -180,21 +175,6 @@ module _ (inst : ProblemInstance) (words : List ℕ) (b : ℕ) (m : Rebuildable 
     pub cut_known : cut_of word < length inst.cuts
     cut_known = all_get (λ w. cut_of w < length inst.cuts) words i 0 m.cuts h
 
-  -- before and after all of them
+  -- before all of them
   pub first_bin : bin_in inst (take 0 words) b ≡ new_sheet (board_in inst b)
   first_bin = bin_bare inst [] b (on_none b [] tt)
-
-  pub last_bin : bin_in inst (take (length words) words) b ≡ bin_in inst words b
-  last_bin = ap (λ (l : List ℕ). bin_in inst l b) (take-length words)
-
--- ---- a rebuilt board's row of the table
-
-module _ (stock cuts : List ℕ) (n : Instance) (words : List ℕ) (b : ℕ) (m : Rebuildable (instance_in stock cuts n) words b) (i : ℕ) (e : i ≡ b) where
-  below : b < n.stock
-  below = omega (arith, m.known, stock_count stock cuts n)
-
-  pub row_within : Tables stock cuts n → stock_words * i + stock_words ≤ length stock
-  row_within t = omega (arith, t.stock_room, below)
-
-  pub row_is : (row : StockInstance) → row ≡ stock_at stock i → row ≡ board_in (instance_in stock cuts n) b
-  row_is row r = r ∙ ap (stock_at stock) e ∙ sym (board_in_lem stock cuts n b below)

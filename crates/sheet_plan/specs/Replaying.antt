@@ -1,4 +1,4 @@
--- A sheet while its making is replayed in lent words, and what each step leaves.
+-- A sheet while its making is replayed, and what each step leaves.
 use Rattle.std.specs.Prelude.{ℕ, ◌+◌, ◌*◌, ◌^◌, ◌≤◌, ◌<◌, ◌≡◌, Bool, List, length, take, drop, Option, Some, None}
 use Rattle.std.proofs.Math.Option.{some}
 use Rattle.lists.specs.Base.{concat_map}
@@ -17,15 +17,16 @@ use Rattle.model.specs.Expand.{ProblemInstance}
 use Rattle.model.specs.Plan.{piece_words, sheet_words}
 use Rattle.trust.proofs.Ranges.{BoardRange}
 use Rattle.trust.proofs.Bounded.{Bounded}
-use Rattle.rect_words.specs.SheetWords.{rects_in, Shows}
+use Rattle.best_place.specs.Places.{Shows}
 use Rattle.guillotine.specs.declared.Inserted.{Inserted}
 use Rattle.guillotine.specs.Insertions.{Ready}
-use Rattle.subtree.specs.Words.{InCorner}
-use Rattle.subtree.specs.Words.{Holds}
-use Rattle.guide.specs.Words.{Guided, Becomes, next_guide}
+use Rattle.subtree.specs.declared.Node.{Node}
+use Rattle.subtree.specs.Nodes.{guide_nodes, InCorner}
+use Rattle.guide.specs.Guides.{Becomes, next_guide}
 use Rattle.fitness.specs.Areas.{areas_of}
 use Rattle.candidate.specs.Entries.{cut_of}
-use Rattle.candidate.specs.Stands.{board_in, making_in, bin_in}
+use Rattle.candidate.specs.Stands.{making_in, bin_in}
+use Rattle.problem.specs.Problem.{board_in}
 use Rattle.sheet_plan.specs.declared.Progress.{Progress}
 use Rattle.sheet_plan.specs.declared.Body.{Body}
 use Rattle.plan_words.specs.Rows.{piece}
@@ -36,13 +37,11 @@ new_pieces s t = concat_map piece_words (drop (length s.placed_pieces) t.placed_
 
 -- ---- the sheet so far
 
--- its free rectangles and its guide in words, the numbers beside them
-pub record Replayed (kerf : ℕ) (s : GuillotineSheet) (rects guide : List ℕ) (p : Progress) : Type 0 where
-  pub room : length rects ≡ 261
-  pub space : length guide ≡ 2056
+-- its free rectangles, its guide's nodes, and the numbers beside them
+pub record Replayed (kerf : ℕ) (s : GuillotineSheet) (rects : List Rect) (guide : List Node) (p : Progress) : Type 0 where
   pub free : Shows rects s.stock.pattern s
-  pub ready : Ready kerf (rects_in rects)
-  pub nodes : Holds guide p.nodes s.slicing_tree
+  pub ready : Ready kerf rects
+  pub nodes : guide ≡ guide_nodes s.slicing_tree
   pub pieces : p.pieces ≡ length s.placed_pieces
   pub placed : p.placed ≡ placed_area s
 
@@ -60,51 +59,50 @@ pub record Rebuildable (inst : ProblemInstance) (words : List ℕ) (board : ℕ)
 
 -- ---- one piece
 
--- room for a piece in the plan, and for its subtree in the guide
-pub record Takeable (at : ℕ) (plan guide : List ℕ) (free_rect : Rect) (fit : FitResult) (p : Progress) : Type 0 where
-  pub room : at + 9 * p.pieces + 9 ≤ length plan
-  pub space : 8 * p.nodes + 32 ≤ length guide
+-- room for a piece's words, and for its subtree in the guide
+pub record Takeable (pieces : List ℕ) (guide : List Node) (free_rect : Rect) (fit : FitResult) (p : Progress) : Type 0 where
+  pub room : 9 * p.pieces + 9 ≤ length pieces
+  pub space : length guide + 4 ≤ 257
   pub corner : InCorner free_rect fit.rect
-  pub guided : Guided guide p.nodes
   pub area : p.placed + area fit.rect < 2 ^ 64
 
-pub record Takes (at kerf : ℕ) (cut : CutInstance) (h : BaselineGuillotineHeuristic) (free_rect : Rect) (fit : FitResult) (merged : Bool) (p : Progress)
-    (plan plan' guide guide' : List ℕ) (q : Progress) : Type 0 where
-  pub words : plan' ≡ patch plan (at + 9 * p.pieces) (piece_words (piece cut h fit))
-  pub nodes : Becomes guide guide' p.nodes q.nodes (next_guide merged (split_direction free_rect fit.rect h.split) kerf free_rect fit.rect cut)
+pub record Takes (kerf : ℕ) (cut : CutInstance) (h : BaselineGuillotineHeuristic) (free_rect : Rect) (fit : FitResult) (merged : Bool) (p : Progress)
+    (before after : List ℕ) (guide guide' : List Node) (q : Progress) : Type 0 where
+  pub words : after ≡ patch before (9 * p.pieces) (piece_words (piece cut h fit))
+  pub nodes : Becomes guide guide' (next_guide merged (split_direction free_rect fit.rect h.split) kerf free_rect fit.rect cut)
   pub pieces : q.pieces ≡ p.pieces + 1
   pub placed : q.placed ≡ p.placed + area fit.rect
 
 -- the same of an insertion, which found a place
-abbrev pub TakeableIn : ℕ → List ℕ → List ℕ → Option Inserted → Progress → Type 0
-TakeableIn at plan guide None p = ⊥
-TakeableIn at plan guide (Some i) p = Takeable at plan guide i.free_rect i.fit p
+abbrev pub TakeableIn : List ℕ → List Node → Option Inserted → Progress → Type 0
+TakeableIn words guide None p = ⊥
+TakeableIn words guide (Some i) p = Takeable words guide i.free_rect i.fit p
 
-abbrev pub TakesIn : ℕ → ℕ → CutInstance → BaselineGuillotineHeuristic → Option Inserted → Progress → List ℕ → List ℕ → List ℕ → List ℕ → Progress → Type 0
-TakesIn at kerf cut h None p plan plan' guide guide' q = ⊥
-TakesIn at kerf cut h (Some i) p plan plan' guide guide' q = Takes at kerf cut h i.free_rect i.fit i.merged p plan plan' guide guide' q
+abbrev pub TakesIn : ℕ → CutInstance → BaselineGuillotineHeuristic → Option Inserted → Progress → List ℕ → List ℕ → List Node → List Node → Progress → Type 0
+TakesIn kerf cut h None p before after guide guide' q = ⊥
+TakesIn kerf cut h (Some i) p before after guide guide' q = Takes kerf cut h i.free_rect i.fit i.merged p before after guide guide' q
 
 -- ---- insertions
 
 -- one insertion more: the sheet that it makes, its new pieces written behind those before
-pub record ReplaysWord (inst : ProblemInstance) (words : List ℕ) (board i at : ℕ) (plan plan' rects guide : List ℕ) (p : Progress) : Type 0 where
+pub record ReplaysWord (inst : ProblemInstance) (words : List ℕ) (board i : ℕ) (before after : List ℕ) (rects : List Rect) (guide : List Node) (p : Progress) : Type 0 where
   pub state : Replayed inst.kerf_width (bin_in inst (take (i + 1) words) board) rects guide p
-  pub pieces : plan' ≡ patch plan (at + 9 * length (bin_in inst (take i words) board).placed_pieces) (new_pieces (bin_in inst (take i words) board) (bin_in inst (take (i + 1) words) board))
+  pub pieces : after ≡ patch before (9 * length (bin_in inst (take i words) board).placed_pieces) (new_pieces (bin_in inst (take i words) board) (bin_in inst (take (i + 1) words) board))
 
 -- all of them
-pub record ReplaysSheet (kerf : ℕ) (s : GuillotineSheet) (at : ℕ) (plan plan' rects guide : List ℕ) (p : Progress) : Type 0 where
+pub record ReplaysSheet (kerf : ℕ) (s : GuillotineSheet) (before after : List ℕ) (rects : List Rect) (guide : List Node) (p : Progress) : Type 0 where
   pub state : Replayed kerf s rects guide p
-  pub pieces : plan' ≡ patch plan at (concat_map piece_words s.placed_pieces)
+  pub pieces : after ≡ patch before 0 (concat_map piece_words s.placed_pieces)
 
--- ---- the whole body
+-- ---- the whole part
 
-pub record WritesSheet (s : GuillotineSheet) (at : ℕ) (before after : List ℕ) (b : Body) : Type 0 where
-  pub words : after ≡ patch before at (sheet_words s)
-  pub end : b.end ≡ at + length (sheet_words s)
+pub record WritesSheet (s : GuillotineSheet) (before after : List ℕ) (b : Body) : Type 0 where
+  pub words : after ≡ patch before 0 (sheet_words s)
+  pub size : b.size ≡ length (sheet_words s)
   pub areas : b.areas ≡ areas_of s
 
--- a sheet made again, whose pieces are in the plan
-pub record Finishable (at : ℕ) (plan rects guide : List ℕ) (stock : StockInstance) (p : Progress) : Type 0 where
+-- a sheet made again, whose pieces are in the part
+pub record Finishable (part : List ℕ) (rects : List Rect) (guide : List Node) (stock : StockInstance) (p : Progress) : Type 0 where
   pub kerf : ℕ
   pub thin : kerf ≤ most_side
   pub sheet : GuillotineSheet
@@ -112,9 +110,9 @@ pub record Finishable (at : ℕ) (plan rects guide : List ℕ) (stock : StockIns
   pub state : Replayed kerf sheet rects guide p
   pub bounded : Bounded kerf sheet
   pub few : length sheet.placed_pieces ≤ 64
-  pub room : at + length (sheet_words sheet) ≤ length plan
+  pub room : length (sheet_words sheet) ≤ length part
 
--- whichever sheet it is, and whichever plan its pieces were put into
-pub record Finishes (at : ℕ) (plan plan' rects guide : List ℕ) (stock : StockInstance) (p : Progress) (b : Body) : Type 0 where
+-- whichever sheet it is, and whichever part its pieces were put into
+pub record Finishes (part after : List ℕ) (rects : List Rect) (guide : List Node) (stock : StockInstance) (p : Progress) (b : Body) : Type 0 where
   pub finishes : (kerf : ℕ) (s : GuillotineSheet) (before : List ℕ) → s.stock ≡ stock → Replayed kerf s rects guide p
-      → length before ≡ length plan → plan ≡ patch before (at + 10) (concat_map piece_words s.placed_pieces) → WritesSheet s at before plan' b
+      → length before ≡ length part → part ≡ patch before 10 (concat_map piece_words s.placed_pieces) → WritesSheet s before after b

@@ -1,7 +1,6 @@
 -- Nodes in the place of one.
-use Rattle.std.specs.Prelude.{ℕ, ◌+◌, ◌-◌, ◌*◌, List, ◌++◌, take}
-use Rattle.lists.specs.Parts.{part}
+use Rattle.std.specs.Prelude.{ℕ, ◌+◌, List, ◌++◌, take, drop}
 
--- the words of so many nodes, one of which others take the place of
-abbrev pub spliced : List ℕ → ℕ → ℕ → List ℕ → List ℕ
-spliced words count at nodes = take (8 * at) words ++ (nodes ++ part words (8 * at + 8) (8 * count - (8 * at + 8)))
+-- a list in which others take the place of one element
+abbrev pub spliced : {A : Type 0} → List A → ℕ → List A → List A
+spliced nodes at others = take at nodes ++ (others ++ drop (at + 1) nodes)

@@ -1,72 +1,47 @@
-// Nodes written into the words of a guide, and a subtree's nodes in the place of one.
+// A subtree's nodes in the place of a guide's node.
 #![tactic(auto)]
 
-ghost use Rattle.std.specs.Prelude.{◌≡◌, ◌++◌, ◌+◌, ◌*◌, ◌≤◌, ◌<◌, length, drop, is_some, count_by};
-ghost use Rattle.lists.specs.Parts.{patch};
-ghost use Rattle.subtree.specs.Words.{words_of, option_words, subtree_words};
+ghost use Rattle.std.specs.Prelude.{◌≡◌, ◌+◌, ◌≤◌, ◌<◌, [], length};
+ghost use Rattle.subtree.specs.Nodes.{around, subtree_nodes};
 ghost use Rattle.splice.specs.Splices.{spliced};
 
-use subtree::{Node, Subtree};
+use arrayvec::ArrayVec;
+use subtree::{CutOff, Node, Subtree};
 
-pub fn put_node(words: &mut [u32], at: usize, node: Node)
-    requires { 8 * at + 8 ≤ length words.old }
-    ensures { words.new ≡ patch words.old (8 * at) (words_of node) }
-{
-    copying::put_words(words, 8 * at, &node.words());
-}
+// A subtree has a piece and at most two cuts, each with its remainder.
+type Nodes = ArrayVec<Node, 5>;
 
-// A node where there is one. The answer is the number behind it.
-fn put_some(words: &mut [u32], at: usize, node: Option<Node>) -> usize
-    requires { 8 * at + length (option_words node) ≤ length words.old }
-    ensures { (words.new ≡ patch words.old (8 * at) (option_words node)) × (8 * result ≡ 8 * at + length (option_words node)) }
+// The nodes come under a cut, where there is one: it stands before them, its remainder behind.
+fn surround(nodes: &mut Nodes, c: Option<CutOff>)
+    requires { length nodes.old.items + length (around c []) ≤ 5 }
+    ensures { nodes.new.items ≡ around c nodes.old.items }
 {
-    match node {
-        None => at,
-        Some(node) => {
-            put_node(words, at, node);
-            at + 1
-        }
+    if let Some(c) = c {
+        nodes.insert(0, c.cut);
+        nodes.push(c.remainder);
     }
 }
 
-// The subtree's nodes, from a number on.
-fn put_subtree(words: &mut [u32], at: usize, subtree: Subtree)
-    requires { 8 * at + length (subtree_words subtree) ≤ length words.old }
-    ensures { words.new ≡ patch words.old (8 * at) (subtree_words subtree) }
+// The nodes of a subtree in preorder.
+fn subtree_nodes(subtree: Subtree) -> Nodes
+    ensures { result.items ≡ subtree_nodes subtree }
 {
-    let inside = put_some(words, at, subtree.outer_cut);
-    let piece = put_some(words, inside, subtree.inner_cut);
-    put_node(words, piece, subtree.piece);
-    let outside = put_some(words, piece + 1, subtree.inner_remainder);
-    put_some(words, outside, subtree.outer_remainder);
+    let mut nodes = ArrayVec::new();
+    nodes.push(subtree.piece);
+    surround(&mut nodes, subtree.inner);
+    surround(&mut nodes, subtree.outer);
+    nodes
 }
 
-fn count_some(nodes: &[Option<Node>]) -> usize
-    ensures { result ≡ count_by is_some nodes.now }
+// The subtree's nodes in the place of a node: those behind it move up.
+pub fn splice<const N: usize>(guide: &mut ArrayVec<Node, N>, at: usize, subtree: Subtree)
+    requires { (at < length guide.old.items) × (length guide.old.items + length (subtree_nodes subtree) ≤ N + 1) }
+    ensures { guide.new.items ≡ spliced guide.old.items at (subtree_nodes subtree) }
 {
-    nodes.iter().filter(|node| node.is_some()).count()
-}
-
-// How many nodes a subtree has beside its piece.
-fn extra_nodes(subtree: Subtree) -> usize
-    ensures { 8 * result + 8 ≡ length (subtree_words subtree) }
-{
-    count_some(&[
-        subtree.outer_cut,
-        subtree.inner_cut,
-        subtree.inner_remainder,
-        subtree.outer_remainder,
-    ])
-}
-
-// The subtree's nodes in the place of a node: those behind it move up. The answer is the new node count.
-pub fn splice(words: &mut [u32], count: usize, at: usize, subtree: Subtree) -> usize
-    requires { (at < count) × (8 * count + length (subtree_words subtree) ≤ length words.old + 8) }
-    ensures { (words.new ≡ spliced words.old count at (subtree_words subtree) ++ drop (8 * result) words.old)
-        × (8 * result + 8 ≡ 8 * count + length (subtree_words subtree)) }
-{
-    let extra = extra_nodes(subtree);
-    words.copy_within(8 * at + 8..8 * count, 8 * at + 8 + 8 * extra);
-    put_subtree(words, at, subtree);
-    count + extra
+    let nodes = subtree_nodes(subtree);
+    let len = guide.len();
+    let behind = at + nodes.len();
+    guide.try_extend_from_slice(&nodes.as_slice()[1..]).unwrap();
+    guide.as_mut_slice().copy_within(at + 1..len, behind);
+    guide.as_mut_slice()[at..behind].copy_from_slice(nodes.as_slice());
 }

@@ -9,6 +9,9 @@ ghost use Rattle.split.specs.Bounds.{Small, Inside};
 
 use model::{Direction, Rect};
 
+// A free rectangle and the piece in its corner go apart from function to function, here and in the crates above, as in the source: a struct of
+// both would be taken apart in each. That the one is inside the other is a clause.
+
 // The remainders' other side: a horizontal split gives the bottom one the whole width, a vertical one the right one the whole length.
 fn bottom_width(direction: Direction, free_rect: Rect, placed: Rect) -> u32
     ensures { result ≡ bottom_width direction free_rect placed }

@@ -1,3 +1,3 @@
 -- Laws that belong to no one function.
-pub mod Slots
+pub mod Storing
 pub mod Populations

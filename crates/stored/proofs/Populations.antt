@@ -21,7 +21,7 @@ use Rattle.candidate.specs.declared.Candidate.{Candidate as Words}
 use Rattle.candidate.specs.Stands.{candidate_in, Stands}
 use Rattle.stored.specs.Slots.{slot_words, slot_of, packed, unpacked, stored_in, store_in}
 use Rattle.stored.specs.Populations.{words_at, candidate_at, StandsAt, population_in, AllStand, OnlySlots}
-use Rattle.stored.proofs.Slots.{length_packed, stored_back, trimmed_candidate, trimmed_stands}
+use Rattle.stored.proofs.Storing.{cuts_of, length_packed, stored_count, stored_back}
 
 -- ---- slots that are as found
 
@@ -87,6 +87,15 @@ module _ (inst : ProblemInstance) where
   unfolding candidate_at
   same_at ws ws' k e = ap (candidate_in inst) (same_slot ws ws' k e)
 
+  -- a slot with the words of one where a candidate stands
+  pub stands_as : (ws ws' : List ℕ) (k k' : ℕ) → slot_of ws' k' ≡ slot_of ws k → StandsAt inst ws k → StandsAt inst ws' k'
+  unfolding stored_in
+  stands_as ws ws' k k' e s =
+      record {
+        stands = subst (λ (block : List ℕ). Stands inst [] (unpacked (length inst.cuts) block)) (sym e) s.stands;
+        counted = subst (λ (block : List ℕ). get_or block 1 0 ≤ length inst.cuts) (sym e) s.counted;
+      }
+
   abbrev SameFrom : List ℕ → List ℕ → ℕ → ℕ → Type 0
   SameFrom ws ws' base n = (k : ℕ) → base ≤ k → k < base + n → slot_of ws' k ≡ slot_of ws k
 
@@ -100,7 +109,7 @@ module _ (inst : ProblemInstance) where
   unfolding AllStand count_from
   same_standing ws ws' base zero h s = tt
   same_standing ws ws' base (suc n) h s =
-      (subst (Stands inst []) (sym (same_slot ws ws' base (h base (omega arith) (omega arith)))) s.0, same_standing ws ws' (suc base) n (λ k b l. h k (omega arith) (omega arith)) s.1)
+      (stands_as ws ws' base base (h base (omega arith) (omega arith)) s.0, same_standing ws ws' (suc base) n (λ k b l. h k (omega arith) (omega arith)) s.1)
 
   module _ (lo hi : ℕ) (ws ws' : List ℕ) (o : OnlySlots lo hi ws ws') (base n : ℕ) (out : (base + n ≤ lo) ⊎ (hi ≤ base)) where
     outside : SameFrom ws ws' base n
@@ -146,11 +155,6 @@ module _ (inst : ProblemInstance) where
   standing_at ws base (suc n) (suc i) s h =
       let e : suc base + i ≡ base + suc i = omega arith in subst (StandsAt inst ws) e (standing_at ws (suc base) n i s.1 (omega arith))
 
-  -- its count of placed cuts, as a load asks
-  pub load_fits : (ws : List ℕ) (slot : ℕ) → StandsAt inst ws slot → get_or (slot_of ws slot) 1 0 ≤ length inst.cuts
-  unfolding stored_in unpacked
-  load_fits ws slot s = omega (arith, s.counts)
-
   pub standing_front : (ws : List ℕ) (base m n : ℕ) → m ≤ n → AllStand inst ws base n → AllStand inst ws base m
   unfolding AllStand count_from
   standing_front ws base zero n h s = tt
@@ -161,7 +165,7 @@ module _ (inst : ProblemInstance) where
   pub standing_proper : (ws : List ℕ) (base n : ℕ) → AllStand inst ws base n → All (CandidateProper inst) (population_in inst ws base n)
   unfolding AllStand population_in candidate_at count_from
   standing_proper ws base zero s = tt
-  standing_proper ws base (suc n) s = (s.0.proper, standing_proper ws (suc base) n s.1)
+  standing_proper ws base (suc n) s = (s.0.stands.proper, standing_proper ws (suc base) n s.1)
 
   pub population_at : (ws : List ℕ) (base n i : ℕ) (d : Candidate) → i < n → get_or (population_in inst ws base n) i d ≡ candidate_at inst ws (base + i)
   unfolding population_in count_from
@@ -182,16 +186,23 @@ module _ (inst : ProblemInstance) where
   -- ---- by a store
 
   module _ (ws : List ℕ) (slot : ℕ) (c : Words) (h : Stands inst [] c) (room : slot_words * slot + slot_words ≤ length ws) (few : length inst.cuts ≤ 64) where
+    all : length inst.cuts ≡ cuts_of c
+    all = omega (arith, h.counts)
+
     pub store_only : OnlySlots slot (slot + 1) ws (store_in ws slot c)
     unfolding store_in
-    store_only = patch_only ws slot (packed c) (omega arith) (omega (arith, length_packed inst c h))
+    store_only = patch_only ws slot (packed c) (omega arith) (omega (arith, length_packed c h.room, all))
+
+    -- the candidate comes back as it was
+    pub store_back : words_at inst (store_in ws slot c) slot ≡ c
+    store_back = ap (stored_in (store_in ws slot c) slot) all ∙ stored_back c h.room ws slot room (omega (arith, all))
 
     pub store_stands : StandsAt inst (store_in ws slot c) slot
-    store_stands = subst (Stands inst []) (sym (stored_back inst c h ws slot room few)) (trimmed_stands inst c h)
+    store_stands = record { stands = subst (Stands inst []) (sym store_back) h; counted = omega (arith, stored_count c h.room ws slot room (omega (arith, all)), all) }
 
     pub store_candidate : candidate_at inst (store_in ws slot c) slot ≡ candidate_in inst c
     unfolding candidate_at
-    store_candidate = ap (candidate_in inst) (stored_back inst c h ws slot room few) ∙ trimmed_candidate inst c h
+    store_candidate = ap (candidate_in inst) store_back
 
   module _ (ws ws' : List ℕ) (base n : ℕ) (c : Words) (h : Stands inst [] c) (room : slot_words * (base + n) + slot_words ≤ length ws) (few : length inst.cuts ≤ 64)
       (e : ws' ≡ store_in ws (base + n) c) where
@@ -232,4 +243,4 @@ module _ (inst : ProblemInstance) where
     copied_population = population_push ws ws' base n copied_only ∙ ap (λ (x : Candidate). population_in inst ws base n ++ (x ∷ [])) (ap (candidate_in inst) copied_words)
 
     pub copied_stands : AllStand inst ws base n → StandsAt inst ws from → AllStand inst ws' base (n + 1)
-    copied_stands s k = standing_push ws ws' base n copied_only s (subst (Stands inst []) (sym copied_words) k)
+    copied_stands s k = standing_push ws ws' base n copied_only s (stands_as ws ws' from (base + n) copied_slot k)

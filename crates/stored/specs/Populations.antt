@@ -1,22 +1,24 @@
 -- A population in the workspace: the definition's candidates in slots that follow one another.
-use Rattle.std.specs.Prelude.{ℕ, ◌*◌, ◌≡◌, List, [], map, length, take, drop}
+use Rattle.std.specs.Prelude.{ℕ, ◌*◌, ◌≤◌, ◌≡◌, List, [], map, length, get_or, take, drop}
 use Rattle.lists.specs.Base.{count_from}
 use Rattle.lists.proofs.Perm.{All}
 use Rattle.model.specs.Candidate.{Candidate}
 use Rattle.model.specs.Expand.{ProblemInstance}
 use Rattle.candidate.specs.declared.Candidate.{Candidate as Words}
 use Rattle.candidate.specs.Stands.{candidate_in, Stands}
-use Rattle.stored.specs.Slots.{slot_words, stored_in}
+use Rattle.stored.specs.Slots.{slot_words, slot_of, stored_in}
 
--- the candidate of words in a slot, the definition's that it stands for, and that it does
+-- the candidate of words in a slot, and the definition's that it stands for
 abbrev pub words_at : ProblemInstance → List ℕ → ℕ → Words
 words_at inst ws slot = stored_in ws slot (length inst.cuts)
 
 unfoldable pub candidate_at : ProblemInstance → List ℕ → ℕ → Candidate
 candidate_at inst ws slot = candidate_in inst (words_at inst ws slot)
 
-abbrev pub StandsAt : ProblemInstance → List ℕ → ℕ → Type 0
-StandsAt inst ws slot = Stands inst [] (words_at inst ws slot)
+-- that it does, with no more cuts counted as placed than there are
+pub record StandsAt (inst : ProblemInstance) (ws : List ℕ) (slot : ℕ) : Type 0 where
+  pub stands : Stands inst [] (words_at inst ws slot)
+  pub counted : get_or (slot_of ws slot) 1 0 ≤ length inst.cuts
 
 -- n candidates from a slot on
 unfoldable pub population_in : ProblemInstance → List ℕ → ℕ → ℕ → List Candidate

@@ -1,5 +1,5 @@
 -- A slot of the workspace: the words of one candidate, and the candidate of words that they are.
-use Rattle.std.specs.Prelude.{ℕ, ◌+◌, ◌-◌, ◌*◌, ◌≤◌, List, ◌∷◌, ◌++◌, length, get_or, drop, replicate}
+use Rattle.std.specs.Prelude.{ℕ, ◌+◌, ◌-◌, ◌*◌, ◌≤◌, List, ◌∷◌, ◌++◌, length, get_or}
 use Rattle.lists.specs.Parts.{part, patch}
 use Rattle.candidate.specs.declared.Candidate.{Candidate as Words}
 use Rattle.candidate.specs.Stands.{placed_words, unused_numbers}
@@ -11,14 +11,10 @@ slot_words = 130
 abbrev pub slot_of : List ℕ → ℕ → List ℕ
 slot_of ws slot = part ws (slot_words * slot) slot_words
 
--- words at the front of an array of 64, and zeros behind them
-unfoldable pub filled : List ℕ → List ℕ
-filled words = words ++ drop (length words) (replicate 64 0)
-
 -- ---- a candidate's words
 
 unfoldable pub packed : Words → List ℕ
-packed c = c.sheets ∷ c.placed ∷ (c.boards ++ (placed_words c ++ unused_numbers c))
+packed c = c.sheets ∷ length (placed_words c) ∷ (c.boards ++ (placed_words c ++ unused_numbers c))
 
 -- the candidate of so many cuts in a slot
 unfoldable pub unpacked : ℕ → List ℕ → Words
@@ -27,10 +23,8 @@ unpacked cuts block =
     record {
       boards = part block 2 64;
       sheets = get_or block 0 0;
-      insertions = filled (part block 66 placed);
-      placed = placed;
-      unused = filled (part block (66 + placed) (cuts - placed));
-      unused_count = cuts - placed;
+      insertions = record { items = part block 66 placed };
+      unused = record { items = part block (66 + placed) (cuts - placed) };
     }
 
 -- what is in a slot, and what a store leaves: the slot's words past the candidate's are as found, and so are all others
@@ -43,16 +37,4 @@ store_in ws slot c = patch ws (slot_words * slot) (packed c)
 -- counts that a slot has room for
 pub record Storable (c : Words) : Type 0 where
   pub sheets : c.sheets ≤ 64
-  pub cuts : c.placed + c.unused_count ≤ 64
-
--- the same candidate with zeros past its counts
-unfoldable pub trimmed : Words → Words
-trimmed c =
-    record {
-      boards = c.boards;
-      sheets = c.sheets;
-      insertions = filled (placed_words c);
-      placed = c.placed;
-      unused = filled (unused_numbers c);
-      unused_count = c.unused_count;
-    }
+  pub cuts : length (placed_words c) + length (unused_numbers c) ≤ 64

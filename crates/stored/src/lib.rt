@@ -3,34 +3,34 @@
 #![tactic(auto)]
 
 ghost use Rattle.std.specs.Prelude.{◌≡◌, ◌+◌, ◌*◌, ◌≤◌, length, get_or};
-ghost use Rattle.lists.specs.Parts.{part, patch};
-ghost use Rattle.stored.specs.Slots.{slot_words, slot_of, filled, unpacked, stored_in, store_in, Storable};
+ghost use Rattle.lists.specs.Parts.{patch};
+ghost use Rattle.stored.specs.Slots.{slot_words, slot_of, unpacked, stored_in, store_in, Storable};
 
 use candidate::Candidate;
 
 // The words of a slot.
 pub const STORED: usize = 130;
 
-// n words from an index on, and zeros behind them.
-fn get_words(block: &[u32], at: usize, n: usize) -> [u32; 64]
-    requires { (n ≤ 64) × (at + n ≤ length block.now) }
-    ensures { result ≡ filled (part block.now at n) }
-{
-    let mut words = [0u32; 64];
-    copying::put_words(&mut words, 0, &block[at..at + n]);
-    words
+// Slots that follow one another: the first, and how many they are. What stands in them is a fact of the workspace's words, and
+// how many they may be differs by what is done with them, so both are clauses; a struct that held the words too would have to say in each function
+// that it holds the same ones.
+#[derive(Clone, Copy)]
+pub struct Slots {
+    pub base: usize,
+    pub count: usize,
 }
 
-pub fn store_at(ws: &mut [u32], slot: usize, c: Candidate)
-    requires { (slot_words * slot + slot_words ≤ length ws.old) × Storable c }
-    ensures { ws.new ≡ store_in ws.old slot c }
+pub fn store_at(ws: &mut [u32], slot: usize, c: &Candidate)
+    requires { (slot_words * slot + slot_words ≤ length ws.old) × Storable c.now }
+    ensures { ws.new ≡ store_in ws.old slot c.now }
 {
     let at = STORED * slot;
+    let placed = c.insertions.len();
     ws[at] = c.sheets as u32;
-    ws[at + 1] = c.placed as u32;
+    ws[at + 1] = placed as u32;
     copying::put_words(ws, at + 2, &c.boards);
-    copying::put_words(ws, at + 66, &c.insertions[..c.placed]);
-    copying::put_words(ws, at + 66 + c.placed, &c.unused[..c.unused_count]);
+    copying::put_words(ws, at + 66, c.insertions.as_slice());
+    copying::put_words(ws, at + 66 + placed, c.unused.as_slice());
 }
 
 // A slot's candidate of so many cuts.
@@ -38,15 +38,14 @@ fn load(block: &[u32], cuts: usize) -> Candidate
     requires { (length block.now ≡ slot_words) × (get_or block.now 1 0 ≤ cuts) × (cuts ≤ 64) }
     ensures { result ≡ unpacked cuts block.now }
 {
-    let sheets = block[0] as usize;
     let placed = block[1] as usize;
+    let mut boards = [0u32; 64];
+    boards.copy_from_slice(&block[2..66]);
     Candidate {
-        boards: get_words(block, 2, 64),
-        sheets,
-        insertions: get_words(block, 66, placed),
-        placed,
-        unused: get_words(block, 66 + placed, cuts - placed),
-        unused_count: cuts - placed,
+        boards,
+        sheets: block[0] as usize,
+        insertions: copying::listed(&block[66..66 + placed]),
+        unused: copying::listed(&block[66 + placed..66 + cuts]),
     }
 }
 

@@ -1,77 +1,65 @@
--- The words of an insertion's subtree, against the definition's cut_off and insert_subtree.
+-- The nodes of an insertion's subtree, against the definition's cut_off and insert_subtree.
 use Rattle.std.specs.Prelude.{if◌then◌else◌, None, Some, option_to_list}
 use Rattle.std.specs.Prelude as Language
 use Prim.Native.Nat.{ℕ, ◌+◌, ◌-◌, ◌<◌}
 use native.Mathlib.Omega.{arith}
 use mathlib.Core.Path.{◌≡◌, refl, sym, ap, ◌∙◌}
 use mathlib.Core.Bool.{Bool, true, false}
-use mathlib.Core.List.{List, [], ◌∷◌, ◌++◌, append-nil, append_assoc}
+use mathlib.Core.List.{List, [], ◌∷◌, ◌++◌}
 use mathlib.Core.Option.{Option, none, some}
 use borrow.Author.Tests.{ltb-true}
 use lib.Dec.{ltb}
-use lib.ListN.{length, length-append}
 use Rattle.lists.specs.Base.{◌>>=◌}
 use Rattle.model.specs.declared.Rect.{Rect}
 use Rattle.model.specs.declared.Direction.{Direction}
 use Rattle.model.specs.Split.{bottom_remainder, right_remainder}
 use Rattle.model.specs.declared.InstanceKey.{InstanceKey}
 use Rattle.model.specs.Guide.{SliceNode, cut, leaf, free, cut_piece, span, cut_off}
-use Rattle.model.specs.Plan.{node_words}
 use Rattle.trust.proofs.Guide.{guide_cut_of, guide_cut_some}
-use Rattle.trust.proofs.RoundTrip.{node_size_lem}
 use Rattle.split.specs.Bounds.{Small, Inside}
 use Rattle.subtree.specs.declared.Node.{Node}
+use Rattle.subtree.specs.declared.CutOff.{CutOff}
 use Rattle.subtree.specs.declared.Subtree.{Subtree}
-use Rattle.subtree.specs.Words.{slice_node, words_of, option_words, subtree_words, guide_words, tree_words, Cuttable, CutsOff, InCorner}
-use Rattle.subtree.proofs.Trees.{tree_words_cut, tree_words_leaf, guide_words_some, guide_words_none}
+use Rattle.subtree.specs.Nodes.{around, subtree_nodes, guide_nodes, tree_nodes, Cuttable, CutsOff, InCorner}
+use Rattle.subtree.proofs.Trees.{tree_nodes_cut, tree_nodes_leaf, guide_nodes_some, guide_nodes_none}
 
 module _ (work : Rect) (o : Direction) (offset kerf : ℕ) where
-  pub cut_off_nothing : (rest : Language.Option Rect) → rest ≡ None → CutsOff work o offset kerf rest None None
+  pub cut_off_nothing : (rest : Language.Option Rect) → rest ≡ None → CutsOff work o offset kerf rest None
   unfolding cut_off
-  cut_off_nothing rest e = record { words = λ tree. rw e (guide_words_some tree ∙ sym (append-nil (tree_words tree))) }
+  cut_off_nothing rest e = record { nodes = λ tree. rw e (guide_nodes_some tree) }
 
-  -- a cut's words do not depend on what is below it
-  cut_words : (a b : SliceNode) → words_of (Node.Cut work o offset kerf) ≡ node_words (cut (guide_cut_of work o offset kerf) a b)
-  unfolding node_words
-  cut_words a b = refl
-
-  around : (r : Rect) (node : SliceNode) → Cuttable work o offset kerf (r ∷ [])
-      → guide_words (cut_off work o offset kerf (r ∷ []) node) ≡ node_words (cut (guide_cut_of work o offset kerf) node (leaf r free)) ++ (tree_words node ++ node_words (leaf r free))
+  around_lem : (r : Rect) (node : SliceNode) → Cuttable work o offset kerf (r ∷ [])
+      → guide_nodes (cut_off work o offset kerf (r ∷ []) node) ≡ Node.Cut work o offset kerf ∷ (tree_nodes node ++ (Node.Free r ∷ []))
   unfolding cut_off
-  around r node h =
-      ap (λ g. guide_words (g >>= λ c. some (cut c node (leaf r free)))) (guide_cut_some work o offset kerf (record { wide = h.0; long = h.1 }) h.2 h.3)
-      ∙ guide_words_some (cut (guide_cut_of work o offset kerf) node (leaf r free))
-      ∙ tree_words_cut (guide_cut_of work o offset kerf) node (leaf r free)
-      ∙ ap (λ (l : List ℕ). node_words (cut (guide_cut_of work o offset kerf) node (leaf r free)) ++ (tree_words node ++ l)) (tree_words_leaf r free)
+  around_lem r node h =
+      ap (λ g. guide_nodes (g >>= λ c. some (cut c node (leaf r free)))) (guide_cut_some work o offset kerf (record { wide = h.0; long = h.1 }) h.2 h.3)
+      ∙ guide_nodes_some (cut (guide_cut_of work o offset kerf) node (leaf r free))
+      ∙ tree_nodes_cut (guide_cut_of work o offset kerf) node (leaf r free)
+      ∙ ap (λ (l : List Node). Node.Cut work o offset kerf ∷ (tree_nodes node ++ l)) (tree_nodes_leaf r free)
 
   pub cut_off_around : (rest : Language.Option Rect) (r : Rect) → rest ≡ Some r → Cuttable work o offset kerf (option_to_list rest)
-      → CutsOff work o offset kerf rest (Some (Node.Cut work o offset kerf)) (Some (Node.Free r))
-  cut_off_around rest r e h =
-      record { words = λ tree. rw e (around r tree (rw e at h) ∙ ap (λ (x : List ℕ). x ++ (tree_words tree ++ node_words (leaf r free))) (sym (cut_words tree (leaf r free)))) }
+      → CutsOff work o offset kerf rest (Some (record { cut = Node.Cut work o offset kerf; remainder = Node.Free r }))
+  cut_off_around rest r e h = record { nodes = λ tree. rw e (around_lem r tree (rw e at h)) }
 
 -- one cut off inside the other
-two_cuts : (inner : Option SliceNode) (outer : SliceNode → Option SliceNode) (n : Node) (bo bi ai ao : List ℕ)
-    → guide_words inner ≡ bi ++ (words_of n ++ ai) → ((t : SliceNode) → guide_words (outer t) ≡ bo ++ (tree_words t ++ ao))
-    → bo ++ (bi ++ (words_of n ++ (ai ++ ao))) ≡ guide_words (inner >>= outer)
-two_cuts none outer n bo bi ai ao e f =
-    absurd (omega (arith, ap length (sym guide_words_none ∙ e), length-append bi (words_of n ++ ai), length-append (words_of n) ai, node_size_lem (slice_node n)))
-two_cuts (some t) outer n bo bi ai ao e f =
-    ap (λ (l : List ℕ). bo ++ l)
-    (ap (λ (l : List ℕ). bi ++ l) (sym (append_assoc (words_of n) ai ao)) ∙ sym (append_assoc bi (words_of n ++ ai) ao) ∙ ap (λ (l : List ℕ). l ++ ao) (sym e ∙ guide_words_some t))
-    ∙ sym (f t)
+two_cuts : (inner : Option SliceNode) (outer : SliceNode → Option SliceNode) (n : Node) (ci co : Language.Option CutOff)
+    → guide_nodes inner ≡ around ci (n ∷ []) → ((t : SliceNode) → guide_nodes (outer t) ≡ around co (tree_nodes t))
+    → around co (around ci (n ∷ [])) ≡ guide_nodes (inner >>= outer)
+two_cuts none outer n None co e f = (let none_there = sym guide_nodes_none ∙ e in cc)
+two_cuts none outer n (Some c) co e f = (let none_there = sym guide_nodes_none ∙ e in cc)
+two_cuts (some t) outer n ci co e f = ap (around co) (sym e ∙ guide_nodes_some t) ∙ sym (f t)
 
 -- an insertion's subtree, by its two cuts and its piece
-pub subtree_words_lem : (kerf : ℕ) (work₁ work₂ : Rect) (o₁ o₂ : Direction) (offset₁ offset₂ : ℕ) (rest₁ rest₂ : Language.Option Rect) (rs₁ rs₂ : List Rect) (r : Rect) (k : InstanceKey) (s : Subtree)
+pub subtree_nodes_lem : (kerf : ℕ) (work₁ work₂ : Rect) (o₁ o₂ : Direction) (offset₁ offset₂ : ℕ) (rest₁ rest₂ : Language.Option Rect) (rs₁ rs₂ : List Rect) (r : Rect) (k : InstanceKey) (s : Subtree)
     → option_to_list rest₁ ≡ rs₁ → option_to_list rest₂ ≡ rs₂ → s.piece ≡ Node.Piece r k
-    → CutsOff work₁ o₁ offset₁ kerf rest₁ s.inner_cut s.inner_remainder → CutsOff work₂ o₂ offset₂ kerf rest₂ s.outer_cut s.outer_remainder
-    → subtree_words s ≡ guide_words (cut_off work₁ o₁ offset₁ kerf rs₁ (leaf r (cut_piece k)) >>= λ t. cut_off work₂ o₂ offset₂ kerf rs₂ t)
-subtree_words_lem kerf work₁ work₂ o₁ o₂ offset₁ offset₂ rest₁ rest₂ rs₁ rs₂ r k s e₁ e₂ p inner outer =
+    → CutsOff work₁ o₁ offset₁ kerf rest₁ s.inner → CutsOff work₂ o₂ offset₂ kerf rest₂ s.outer
+    → subtree_nodes s ≡ guide_nodes (cut_off work₁ o₁ offset₁ kerf rs₁ (leaf r (cut_piece k)) >>= λ t. cut_off work₂ o₂ offset₂ kerf rs₂ t)
+subtree_nodes_lem kerf work₁ work₂ o₁ o₂ offset₁ offset₂ rest₁ rest₂ rs₁ rs₂ r k s e₁ e₂ p inner outer =
     let tree : SliceNode = leaf r (cut_piece k) in
-    two_cuts (cut_off work₁ o₁ offset₁ kerf rs₁ tree) (λ t. cut_off work₂ o₂ offset₂ kerf rs₂ t) s.piece
-    (option_words s.outer_cut) (option_words s.inner_cut) (option_words s.inner_remainder) (option_words s.outer_remainder)
-    (ap (λ (l : List Rect). guide_words (cut_off work₁ o₁ offset₁ kerf l tree)) (sym e₁) ∙ inner.words tree
-    ∙ ap (λ (l : List ℕ). option_words s.inner_cut ++ (l ++ option_words s.inner_remainder)) (tree_words_leaf r (cut_piece k) ∙ sym (ap words_of p)))
-    (λ t. ap (λ (l : List Rect). guide_words (cut_off work₂ o₂ offset₂ kerf l t)) (sym e₂) ∙ outer.words t)
+    two_cuts (cut_off work₁ o₁ offset₁ kerf rs₁ tree) (λ t. cut_off work₂ o₂ offset₂ kerf rs₂ t) s.piece s.inner s.outer
+    (ap (λ (l : List Rect). guide_nodes (cut_off work₁ o₁ offset₁ kerf l tree)) (sym e₁) ∙ inner.nodes tree
+    ∙ ap (around s.inner) (tree_nodes_leaf r (cut_piece k) ∙ ap (λ (n : Node). n ∷ []) (sym p)))
+    (λ t. ap (λ (l : List Rect). guide_nodes (cut_off work₂ o₂ offset₂ kerf l t)) (sym e₂) ∙ outer.nodes t)
 
 -- a remainder is pushed only if the cut leaves more than the kerf
 module _ (kerf : ℕ) (f p : Rect) (h : InCorner f p) where

@@ -1,12 +1,13 @@
-// The subtree that an insertion puts in the place of a free leaf, by its nodes: eight words each, as the plan has them.
+// The nodes of a cutting guide, and the subtree that an insertion puts in the place of a free leaf.
 #![tactic(auto)]
 
 ghost use Rattle.std.specs.Prelude.{◌≡◌, option_to_list};
 ghost use Rattle.model.specs.declared.Direction.{Direction};
 ghost use Rattle.model.specs.Types.{cut_key};
 ghost use Rattle.model.specs.Guide.{insert_subtree};
-ghost use Rattle.subtree.specs.Words.{words_of, subtree_words, guide_words, InCorner, Cuttable, CutsOff};
+ghost use Rattle.subtree.specs.Nodes.{words_of, subtree_nodes, guide_nodes, InCorner, Cuttable, CutsOff};
 
+use arrayvec::ArrayVec;
 use model::{CutInstance, Direction, InstanceKey, Rect};
 
 // A node of a guide, without what is below it.
@@ -23,6 +24,17 @@ pub enum Node {
         key: InstanceKey,
     },
     Free(Rect),
+}
+
+impl Default for Node {
+    fn default() -> Self {
+        Node::Free(Rect {
+            x: 0,
+            y: 0,
+            width: 0,
+            length: 0,
+        })
+    }
 }
 
 impl Node {
@@ -61,39 +73,49 @@ impl Node {
     }
 }
 
-// An insertion's subtree, by its nodes in preorder. A cut and the remainder that it takes off are both there, or neither is.
+// The board, and four more for each of 64 pieces.
+pub const MOST_NODES: usize = 257;
+
+// The nodes of a guide in preorder: a cut before its first and its second child. A guide of no nodes is none.
+pub type Guide = ArrayVec<Node, MOST_NODES>;
+
+// A cut, and the leaf of the remainder that it takes off.
 #[derive(Clone, Copy)]
-pub struct Subtree {
-    pub outer_cut: Option<Node>,
-    pub inner_cut: Option<Node>,
-    pub piece: Node,
-    pub inner_remainder: Option<Node>,
-    pub outer_remainder: Option<Node>,
+pub struct CutOff {
+    pub cut: Node,
+    pub remainder: Node,
 }
 
-// The cut that takes a remainder off, and the remainder's leaf. It is a cut that Cut::new takes.
+// An insertion's subtree: the outer cut is around the inner one, and that around the piece.
+#[derive(Clone, Copy)]
+pub struct Subtree {
+    pub outer: Option<CutOff>,
+    pub inner: Option<CutOff>,
+    pub piece: Node,
+}
+
+// A remainder cut off from the work rectangle, where there is one. It is a cut that Cut::new takes.
 fn cut_off(
     work: Rect,
     orientation: Direction,
     offset: u32,
     kerf: u32,
     remainder: Option<Rect>,
-) -> (Option<Node>, Option<Node>)
+) -> Option<CutOff>
     requires { Cuttable work orientation offset kerf (option_to_list remainder) }
-    ensures { CutsOff work orientation offset kerf remainder result.0 result.1 }
+    ensures { CutsOff work orientation offset kerf remainder result }
 {
-    match remainder {
-        None => (None, None),
-        Some(rect) => {
-            let cut = Node::Cut {
-                work,
-                orientation,
-                offset,
-                kerf,
-            };
-            (Some(cut), Some(Node::Free(rect)))
-        }
-    }
+    let rect = remainder?;
+    let cut = Node::Cut {
+        work,
+        orientation,
+        offset,
+        kerf,
+    };
+    Some(CutOff {
+        cut,
+        remainder: Node::Free(rect),
+    })
 }
 
 fn cut_key(cut: CutInstance) -> InstanceKey
@@ -113,7 +135,7 @@ fn guillotine_horizontal_insert_subtree(
     kerf: u32,
 ) -> Subtree
     requires { InCorner free_rect placed }
-    ensures { subtree_words result ≡ guide_words (insert_subtree Direction.Horizontal kerf free_rect placed cut) }
+    ensures { subtree_nodes result ≡ guide_nodes (insert_subtree Direction.Horizontal kerf free_rect placed cut) }
 {
     let top = Rect {
         length: placed.length,
@@ -121,23 +143,21 @@ fn guillotine_horizontal_insert_subtree(
     };
     let right = split::right_remainder(free_rect, placed, kerf, Direction::Horizontal);
     let bottom = split::bottom_remainder(free_rect, placed, kerf, Direction::Horizontal);
-    let (outer_cut, outer_remainder) = cut_off(
+    let outer = cut_off(
         free_rect,
         Direction::Horizontal,
         placed.length,
         kerf,
         bottom,
     );
-    let (inner_cut, inner_remainder) = cut_off(top, Direction::Vertical, placed.width, kerf, right);
+    let inner = cut_off(top, Direction::Vertical, placed.width, kerf, right);
     Subtree {
-        outer_cut,
-        inner_cut,
+        outer,
+        inner,
         piece: Node::Piece {
             rect: placed,
             key: cut_key(cut),
         },
-        inner_remainder,
-        outer_remainder,
     }
 }
 
@@ -148,7 +168,7 @@ fn guillotine_vertical_insert_subtree(
     kerf: u32,
 ) -> Subtree
     requires { InCorner free_rect placed }
-    ensures { subtree_words result ≡ guide_words (insert_subtree Direction.Vertical kerf free_rect placed cut) }
+    ensures { subtree_nodes result ≡ guide_nodes (insert_subtree Direction.Vertical kerf free_rect placed cut) }
 {
     let left = Rect {
         width: placed.width,
@@ -156,29 +176,15 @@ fn guillotine_vertical_insert_subtree(
     };
     let bottom = split::bottom_remainder(free_rect, placed, kerf, Direction::Vertical);
     let right = split::right_remainder(free_rect, placed, kerf, Direction::Vertical);
-    let (outer_cut, outer_remainder) = cut_off(
-        free_rect,
-        Direction::Vertical,
-        placed.width,
-        kerf,
-        right,
-    );
-    let (inner_cut, inner_remainder) = cut_off(
-        left,
-        Direction::Horizontal,
-        placed.length,
-        kerf,
-        bottom,
-    );
+    let outer = cut_off(free_rect, Direction::Vertical, placed.width, kerf, right);
+    let inner = cut_off(left, Direction::Horizontal, placed.length, kerf, bottom);
     Subtree {
-        outer_cut,
-        inner_cut,
+        outer,
+        inner,
         piece: Node::Piece {
             rect: placed,
             key: cut_key(cut),
         },
-        inner_remainder,
-        outer_remainder,
     }
 }
 
@@ -190,7 +196,7 @@ pub fn guillotine_insert_subtree(
     kerf: u32,
 ) -> Subtree
     requires { InCorner free_rect placed }
-    ensures { subtree_words result ≡ guide_words (insert_subtree direction kerf free_rect placed cut) }
+    ensures { subtree_nodes result ≡ guide_nodes (insert_subtree direction kerf free_rect placed cut) }
 {
     match direction {
         Direction::Horizontal => guillotine_horizontal_insert_subtree(free_rect, placed, cut, kerf),

@@ -31,13 +31,14 @@ use Rattle.trust.proofs.Ranges.{Ranged}
 use Rattle.trust.proofs.Proper.{SheetProper, UnderWay, compact_proper}
 use Rattle.candidate.specs.declared.Candidate.{Candidate as Words}
 use Rattle.candidate.specs.Entries.{board_of, cut_of, on_board}
-use Rattle.candidate.specs.Stands.{board_in, cut_in, insertion_in, making_in, bin_in, sheet_boards, available_boards, placed_words, unused_numbers, candidate_in, Stands}
+use Rattle.candidate.specs.Stands.{insertion_in, making_in, bin_in, sheet_boards, available_boards, placed_words, unused_numbers, candidate_in, Stands}
+use Rattle.problem.specs.Problem.{board_in, cut_in}
 use Rattle.candidate.proofs.Lists.{Other, other_sym}
 use Rattle.candidate.proofs.Standing.{few_boards_lem, length_all_boards, length_sheets, boards_split, boards_once_lem}
 use Rattle.evaluation.specs.OnSheets.{no_bin, IsWorst}
 use Rattle.evaluation.proofs.Sheets.{BinAt, bin_at}
-use Rattle.evaluation.proofs.Validity.{length_placed}
-use Rattle.variation.specs.Compact.{off_board, put_back, TakenApart, SameSheet, Compacted}
+use Rattle.variation.proofs.Sheets.{bin_count}
+use Rattle.variation.specs.Compact.{off_board, put_back, apart, SameSheet, Compacted}
 
 -- ---- insertions on a board and off it
 
@@ -65,15 +66,24 @@ compact_one catalog c one = rw (lt-ltb (length c.bins) 2 one)
 -- ---- the same in words
 
 module _ (inst : ProblemInstance) (a : Admitted inst) (ranged : Ranged inst) (c : Words) (s : Stands inst [] c) (k : ℕ) (worst : IsWorst (candidate_in inst c).bins k)
-    (two : 2 ≤ c.sheets) (t : Words) (apart : TakenApart c (get_or c.boards k 0) t) (boards : List ℕ) (back : boards ≡ put_back c.boards (length inst.stock) k) where
+    (two : 2 ≤ c.sheets) where
   abbrev b : ℕ
   b = get_or c.boards k 0
 
   abbrev words : List ℕ
   words = placed_words c
 
+  abbrev boards : List ℕ
+  boards = put_back c.boards (length inst.stock) k
+
   abbrev r : Words
-  r = record { boards = boards; sheets = c.sheets - 1; insertions = t.insertions; placed = t.placed; unused = t.unused; unused_count = t.unused_count }
+  r =
+      record {
+        boards = boards;
+        sheets = c.sheets - 1;
+        insertions = record { items = off_board b words };
+        unused = record { items = unused_numbers c ++ map cut_of (on_board b words) };
+      }
 
   abbrev S : List ℕ
   S = sheet_boards c
@@ -89,12 +99,8 @@ module _ (inst : ProblemInstance) (a : Admitted inst) (ranged : Ranged inst) (c 
 
   -- ---- the boards
 
-  bin_count : length (candidate_in inst c).bins ≡ c.sheets
-  unfolding candidate_in
-  bin_count = length-map (bin_in inst words) S ∙ length_sheets inst [] c s ranged
-
   inside : k < length S
-  inside = omega (arith, worst.0, bin_count, length_sheets inst [] c s ranged)
+  inside = omega (arith, worst.0, bin_count inst c s, length_sheets inst [] c s ranged)
 
   first : length P ≡ k
   first = length-take-le k S (omega (arith, inside))
@@ -126,7 +132,7 @@ module _ (inst : ProblemInstance) (a : Admitted inst) (ranged : Ranged inst) (c 
 
   boards_are : boards ≡ ((P ++ Q) ++ A) ++ (b ∷ drop (length inst.stock) c.boards)
   unfolding put_back
-  boards_are = back ∙ ap (λ (l : List ℕ). l ++ (b ∷ drop (length inst.stock) c.boards)) without
+  boards_are = ap (λ (l : List ℕ). l ++ (b ∷ drop (length inst.stock) c.boards)) without
 
   sheets_left : sheet_boards r ≡ P ++ Q
   sheets_left = ap (take (c.sheets - 1)) (boards_are ∙ append_assoc (P ++ Q) A _) ∙ take_at (P ++ Q) _ (c.sheets - 1) others
@@ -150,7 +156,7 @@ module _ (inst : ProblemInstance) (a : Admitted inst) (ranged : Ranged inst) (c 
   apart_boards = (pairs_perm Other other_sym outside (pairs_left Other S A (subst (Pairs Other) (sym (boards_split inst [] c s ranged)) (boards_once_lem inst [] c s ranged)))).0
 
   same_words : All (λ x. on_board x (placed_words r) ≡ on_board x words) (P ++ Q)
-  same_words = all_map (Other b) (λ x. on_board x (placed_words r) ≡ on_board x words) (λ x n. ap (on_board x) apart.insertions ∙ on_off b x words n) (P ++ Q) apart_boards
+  same_words = all_map (Other b) (λ x. on_board x (placed_words r) ≡ on_board x words) (λ x n. on_off b x words n) (P ++ Q) apart_boards
 
   same_making : (x : ℕ) → on_board x (placed_words r) ≡ on_board x words → making_in inst (placed_words r) x ≡ making_in inst words x
   unfolding making_in
@@ -197,8 +203,7 @@ module _ (inst : ProblemInstance) (a : Admitted inst) (ranged : Ranged inst) (c 
   cuts_left : map (cut_in inst) (unused_numbers r) ≡ C.unused_cuts ++ cuts_of W
   unfolding candidate_in
   cuts_left =
-      ap (map (cut_in inst)) apart.unused
-      ∙ map_append (cut_in inst) (unused_numbers c) (map cut_of (on_board b words))
+      map_append (cut_in inst) (unused_numbers c) (map cut_of (on_board b words))
       ∙ ap (λ (l : List CutInstance). map (cut_in inst) (unused_numbers c) ++ l) (sym at.cuts)
 
   found : cuts_for_keys inst.cuts (sheet_keys W) ≡ some (cuts_of W)
@@ -209,7 +214,7 @@ module _ (inst : ProblemInstance) (a : Admitted inst) (ranged : Ranged inst) (c 
   unfolding candidate_in
   compacted_is =
       (λ i. record { bins = bins_left i; available_stock = stock_left i; unused_cuts = cuts_left i })
-      ∙ sym (compact_is inst.cuts C (k, W) (cuts_of W) (omega (arith, bin_count, two)) worst.1 found)
+      ∙ sym (compact_is inst.cuts C (k, W) (cuts_of W) (omega (arith, bin_count inst c s, two)) worst.1 found)
 
   -- ---- and stands
 
@@ -226,18 +231,17 @@ module _ (inst : ProblemInstance) (a : Admitted inst) (ranged : Ranged inst) (c 
       let on : List ℕ = map cut_of (on_board b words) in
       let both : Perm (off ++ on) (map cut_of words) = subst (λ (l : List ℕ). Perm l (map cut_of words)) (map_append cut_of (off_board b words) (on_board b words)) (map_perm cut_of (split_words b words)) in
       let before : Perm (map cut_of words ++ unused_numbers c) (range (length inst.cuts)) = subst (λ (l : List ℕ). Perm (map cut_of words ++ l) (range (length inst.cuts))) (append-nil (unused_numbers c)) s.cuts in
-      rw (append-nil (unused_numbers r), apart.insertions, apart.unused)
+      rw (append-nil (unused_numbers r))
       (also (perm_append_left off (perm_append_comm (unused_numbers c) on)) (subst (λ (l : List ℕ). Perm l (range (length inst.cuts))) (append_assoc off on (unused_numbers c)) (also (perm_append_right (unused_numbers c) both) before)))
 
-  counts_stay : t.placed + (t.unused_count + 0) ≡ length inst.cuts
+  counts_stay : length (placed_words r) + (length (unused_numbers r) + 0) ≡ length inst.cuts
   counts_stay =
       omega (
         arith,
-        apart.placed,
-        apart.count,
+        length-append (unused_numbers c) (map cut_of (on_board b words)),
+        length-map cut_of (on_board b words),
         length-append (off_board b words) (on_board b words),
         length_perm (split_words b words),
-        length_placed inst [] c s,
         s.counts,
       )
 
@@ -246,7 +250,7 @@ module _ (inst : ProblemInstance) (a : Admitted inst) (ranged : Ranged inst) (c 
   unfolding off_board
   on_stays =
       let p : ℕ → Bool = λ w. not (eqb (board_of w) b) in
-      rw (apart.insertions, sheets_left)
+      rw sheets_left
       (all_map (λ w. Memᴰ (board_of w) S × T (p w)) (λ w. Memᴰ (board_of w) (P ++ Q)) (λ w h. ⊎_elim (λ e. absurd (T_not (eqb (board_of w) b) h.1 (subst T (sym (eq-eqb (board_of w) b e)) tt))) (λ m. m) (Memᴰ.cases_cons (mem_perm outside h.0))) (retain p words)
       (retain_sub (λ w. Memᴰ (board_of w) S) p words s.on))
 
@@ -285,12 +289,29 @@ module _ (inst : ProblemInstance) (a : Admitted inst) (ranged : Ranged inst) (c 
   pub compacted_words : Compacted inst c r
   compacted_words = record { is = compacted_is; stands = compacted_stands; kept = same_sheets }
 
+-- as the calls leave it
+pub compacted_by : (inst : ProblemInstance) (a : Admitted inst) (ranged : Ranged inst) (c : Words) (s : Stands inst [] c) (k : ℕ) → IsWorst (candidate_in inst c).bins k → 2 ≤ c.sheets
+    → (t : Words) → t ≡ apart c (get_or c.boards k 0) → (boards : List ℕ) → boards ≡ put_back t.boards (length inst.stock) k
+    → Compacted inst c (record { boards = boards; sheets = t.sheets - 1; insertions = t.insertions; unused = t.unused })
+unfolding apart
+compacted_by inst a ranged c s k worst two t e boards back =
+    let b = get_or c.boards k 0 in
+    let is = back ∙ ap (λ (x : Words). put_back x.boards (length inst.stock) k) e in
+    let all : ◌≡◌ {A = Words} (record { boards = boards; sheets = t.sheets - 1; insertions = t.insertions; unused = t.unused }) (record {
+      boards = put_back c.boards (length inst.stock) k;
+      sheets = c.sheets - 1;
+      insertions = (apart c b).insertions;
+      unused = (apart c b).unused;
+    }) =
+    λ i. record { boards = is i; sheets = (e i).sheets - 1; insertions = (e i).insertions; unused = (e i).unused }
+    in
+    subst (Compacted inst c) (sym all) (compacted_words inst a ranged c s k worst two)
+
 -- a candidate of one sheet stays
-pub compacted_one : (inst : ProblemInstance) (c : Words) → Ranged inst → Stands inst [] c → c.sheets < 2 → Compacted inst c c
-unfolding candidate_in
-compacted_one inst c ranged s one =
+pub compacted_one : (inst : ProblemInstance) (c : Words) → Stands inst [] c → c.sheets < 2 → Compacted inst c c
+compacted_one inst c s one =
     record {
-      is = sym (compact_one inst.cuts (candidate_in inst c) (omega (arith, length-map (bin_in inst (placed_words c)) (sheet_boards c), length_sheets inst [] c s ranged)));
+      is = sym (compact_one inst.cuts (candidate_in inst c) (omega (arith, bin_count inst c s)));
       stands = s;
       kept = all_map (λ x. Memᴰ x (sheet_boards c)) (SameSheet c c) (λ x m. (m, refl)) (sheet_boards c) (all_self (sheet_boards c));
     }

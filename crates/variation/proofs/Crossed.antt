@@ -7,7 +7,7 @@ use mathlib.Core.List.Memᴰ
 use mathlib.Core.List.{List, [], ◌∷◌, ◌++◌, map, append-nil, append_assoc, Memᴰ}
 use mathlib.Core.Option.{Option, none, some}
 use lib.Dec.{T, eqb}
-use lib.ListN.{length, get_or, take, drop, length-append, length-replicate, take-append-drop}
+use lib.ListN.{length, get_or, take, drop, length-append, take-append-drop}
 use lib.Seq.{get_or-take}
 use borrow.Author.Tests.{eq-eqb}
 use Rattle.lists.specs.Base.{◌>>=◌, retain, find, enumerate, first_best, range, remove_at, to_list}
@@ -35,7 +35,8 @@ use Rattle.trust.proofs.Proper.{SheetProper, UnderWay, CandidateProper, child_pr
 use Rattle.candidate.specs.declared.Candidate.{Candidate as Words}
 use Rattle.candidate.specs.Entries.{board_of, cut_of, on_board}
 use Rattle.candidate.specs.Moves.{new_words, moved_up}
-use Rattle.candidate.specs.Stands.{board_in, cut_in, no_stock, no_cut, insertion_in, making_in, bin_in, sheet_boards, available_boards, placed_words, unused_numbers, candidate_in, Stands}
+use Rattle.candidate.specs.Stands.{insertion_in, making_in, bin_in, sheet_boards, available_boards, placed_words, unused_numbers, candidate_in, Stands}
+use Rattle.problem.specs.Problem.{board_in, cut_in, no_stock, no_cut}
 use Rattle.candidate.proofs.Codes.{board_back, cut_back, row_back}
 use Rattle.candidate.proofs.Lists.{moved_front, length_moved}
 use Rattle.candidate.proofs.Makings.{rebuilt_bin}
@@ -45,18 +46,9 @@ use Rattle.evaluation.specs.OnSheets.{no_bin, IsBestDonor}
 use Rattle.evaluation.proofs.BestIndex.{donor_bin}
 use Rattle.evaluation.proofs.Sheets.{Made, bin_made, BinAt, bin_at}
 use Rattle.evaluation.proofs.KeyNumbers.{same_number, contains_number}
-use Rattle.variation.specs.Donated.{with_insertions, with_unused_cuts, anew, donated, others_than, index_of, child_sheet, child_words}
-use Rattle.variation.proofs.Pushes.{Inserted, inserted, Unplaced, unplaced, cut_small}
+use Rattle.variation.specs.Donated.{with_insertions, with_unused_cuts, anew, donated, others_than, index_of, sheet_of, child_words}
+use Rattle.variation.proofs.Pushes.{cut_small}
 use Rattle.variation.proofs.Picks.{indexed, index_append, find_row, others_perm}
-
--- a new candidate has nothing placed, and room
-new_counts : (new_words.placed ≡ 0) × (new_words.unused_count ≡ 0)
-unfolding new_words
-new_counts = (refl, refl)
-
-new_rooms : (length new_words.insertions ≡ 64) × (length new_words.unused ≡ 64)
-unfolding new_words
-new_rooms = (length-replicate {A = ℕ} 64 0, length-replicate {A = ℕ} 64 0)
 
 -- ---- the donor's cuts, to be placed anew
 
@@ -103,11 +95,8 @@ pub record Ready (inst : ProblemInstance) (left right : Words) (board : ℕ) (h 
   pub few : length (donated (placed_words right) board h) ≤ 64
   pub cuts : All (λ w. cut_of w < length inst.cuts) (donated (placed_words right) board h)
   pub on : All (λ w. Memᴰ (board_of w) (board ∷ [])) (donated (placed_words right) board h)
-  pub insertions : placed_words (with_insertions new_words (donated (placed_words right) board h)) ≡ donated (placed_words right) board h
-  -- of the board's index, and of the cuts that are left
+  -- of the board's index
   pub index : index_of board left.boards < length inst.stock
-  pub placed : (child_sheet left right board h).placed ≤ 64
-  pub unused : (child_sheet left right board h).unused_count ≡ 0
 
 module _ (inst : ProblemInstance) (a : Admitted inst) (ranged : Ranged inst) (h : BaselineGuillotineHeuristic) (left right : Words) (l : Stands inst [] left) (r : Stands inst [] right) (i : ℕ)
     (best : IsBestDonor (candidate_in inst right).bins i) where
@@ -162,39 +151,13 @@ module _ (inst : ProblemInstance) (a : Admitted inst) (ranged : Ranged inst) (h 
 
   -- ---- its words
 
-  abbrev made : Words
-  made = with_insertions new_words new
-
-  made_is : Inserted new_words new made
-  made_is = inserted new_words new (omega (arith, new_rooms.0, new_counts.0, length_new, cut_count, ranged.few_panels))
-
-  abbrev sheet : Words
-  sheet = child_sheet left right board h
-
-  sheet_words_lem : placed_words sheet ≡ new
-  unfolding child_sheet
-  sheet_words_lem = made_is.insertions ∙ ap (λ (n : ℕ). take n new_words.insertions ++ new) new_counts.0
-
-  child_is : Unplaced sheet others child
-  unfolding child_words child_sheet
-  child_is =
-      subst (λ (x : List ℕ). Unplaced sheet others (with_unused_cuts sheet (others_than x (length inst.cuts)))) (sym (ap (map cut_of) sheet_words_lem ∙ donated_cuts inst words board h))
-      (unplaced sheet others (omega (arith, made_is.count, new_counts.1, ap length made_is.unused, new_rooms.1, cut_count, ranged.few_panels)))
-
   pub child_words_lem : placed_words child ≡ new
-  child_words_lem = ap₂ (λ (n : ℕ) (x : List ℕ). take n x) child_is.placed child_is.insertions ∙ sheet_words_lem
-
-  child_placed : child.placed ≡ length new
-  unfolding child_sheet
-  child_placed = child_is.placed ∙ made_is.placed ∙ ap (λ (n : ℕ). n + length new) new_counts.0 ∙ omega arith
+  unfolding child_words sheet_of with_insertions with_unused_cuts new_words
+  child_words_lem = refl
 
   child_unused : unused_numbers child ≡ others
-  unfolding child_sheet
-  child_unused = child_is.unused ∙ ap (λ (n : ℕ). take n made.unused ++ others) (made_is.count ∙ new_counts.1)
-
-  child_count : child.unused_count ≡ length others
-  unfolding child_sheet
-  child_count = omega (arith, child_is.count, made_is.count, new_counts.1)
+  unfolding child_words sheet_of with_insertions with_unused_cuts new_words
+  child_unused = ap (λ (x : List ℕ). others_than x (length inst.cuts)) (donated_cuts inst words board h)
 
   -- ---- the boards
 
@@ -226,15 +189,14 @@ module _ (inst : ProblemInstance) (a : Admitted inst) (ranged : Ranged inst) (h 
   there = sym (get_or-take n left.boards j 0 inside) ∙ (indexed board L listed).1
 
   boards_are : child.boards ≡ board ∷ remove_at j left.boards
-  unfolding child_sheet moved_up
+  unfolding child_words sheet_of with_unused_cuts moved_up
   boards_are =
-      child_is.boards
-      ∙ ap (λ (k : ℕ). get_or left.boards k 0 ∷ remove_at k left.boards) index_is
+      ap (λ (k : ℕ). get_or left.boards k 0 ∷ remove_at k left.boards) index_is
       ∙ ap (λ (b : ℕ). b ∷ remove_at j left.boards) there
 
   sheets_is : child.sheets ≡ 1
-  unfolding child_sheet
-  sheets_is = child_is.sheets
+  unfolding child_words sheet_of with_unused_cuts
+  sheets_is = refl
 
   pub child_sheets : sheet_boards child ≡ board ∷ []
   child_sheets = ap₂ (λ (k : ℕ) (x : List ℕ). take k x) sheets_is boards_are
@@ -249,18 +211,13 @@ module _ (inst : ProblemInstance) (a : Admitted inst) (ranged : Ranged inst) (h 
   cuts_below = all_left (λ k. k < length inst.cuts) ks others (all_perm (λ k. k < length inst.cuts) (perm_sym all_cuts) (range_below (length inst.cuts)))
 
   pub child_ready : Ready inst left right board h
-  unfolding child_sheet
   child_ready =
-      let few : length new ≤ 64 = omega (arith, length_new, cut_count, ranged.few_panels) in
       record {
         board_known = known;
-        few = few;
+        few = omega (arith, length_new, cut_count, ranged.few_panels);
         cuts = all_of_map (λ k. k < length inst.cuts) cut_of new (subst (All (λ k. k < length inst.cuts)) (sym (donated_cuts inst words board h)) cuts_below);
         on = all_map (λ w. board_of w ≡ board) (λ w. Memᴰ (board_of w) (board ∷ [])) (λ w e. Memᴰ.head e) new (donated_on inst words board h);
-        insertions = sheet_words_lem;
         index = omega (arith, index_is, inside);
-        placed = omega (arith, few, made_is.placed, new_counts.0);
-        unused = made_is.count ∙ new_counts.1;
       }
 
   -- ---- what the definition finds
@@ -393,7 +350,7 @@ module _ (inst : ProblemInstance) (a : Admitted inst) (ranged : Ranged inst) (h 
           sheets = omega (arith, sheets_is, known);
           boards = boards_stay;
           cuts = cuts_stay;
-          counts = omega (arith, child_placed, child_count, length_new, cut_count);
+          counts = omega (arith, ap length child_words_lem, ap length child_unused, length_new, cut_count);
           on = on_stays;
           rebuilt = rebuilt_stays;
           proper = proper;

@@ -1,4 +1,5 @@
 -- Laws that belong to no one function.
+pub mod Sheets
 pub mod Shifted
 pub mod Apart
 pub mod Compacting

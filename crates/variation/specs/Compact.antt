@@ -1,5 +1,5 @@
 -- Compaction in words: a sheet's insertions are taken out, and its board goes behind all others.
-use Rattle.std.specs.Prelude.{ℕ, ◌+◌, ◌≡◌, not, eqb, length, get_or, take, drop}
+use Rattle.std.specs.Prelude.{ℕ, ◌≡◌, not, eqb, get_or, take, drop}
 use mathlib.Core.List.{List, [], ◌∷◌, ◌++◌, map, Memᴰ}
 use Rattle.lists.specs.Base.{retain, remove_at}
 use Rattle.lists.proofs.Perm.{All}
@@ -18,13 +18,14 @@ unfoldable pub put_back : List ℕ → ℕ → ℕ → List ℕ
 put_back boards count index = remove_at index (take count boards) ++ (get_or boards index 0 ∷ drop count boards)
 
 -- a sheet taken apart: the insertions on its board are out, their cuts are behind the unused ones
-pub record TakenApart (c : Words) (board : ℕ) (r : Words) : Type 0 where
-  pub boards : r.boards ≡ c.boards
-  pub sheets : r.sheets ≡ c.sheets
-  pub insertions : placed_words r ≡ off_board board (placed_words c)
-  pub placed : r.placed ≡ length (off_board board (placed_words c))
-  pub unused : unused_numbers r ≡ unused_numbers c ++ map cut_of (on_board board (placed_words c))
-  pub count : r.unused_count ≡ c.unused_count + length (on_board board (placed_words c))
+unfoldable pub apart : Words → ℕ → Words
+apart c board =
+    record {
+      boards = c.boards;
+      sheets = c.sheets;
+      insertions = record { items = off_board board (placed_words c) };
+      unused = record { items = unused_numbers c ++ map cut_of (on_board board (placed_words c)) };
+    }
 
 -- a sheet that was there before, with the same insertions
 abbrev pub SameSheet : Words → Words → ℕ → Type 0

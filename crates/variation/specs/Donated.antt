@@ -1,20 +1,22 @@
 -- The words of a crossover child: the donor's sheet with its cuts placed anew, the other cuts unused.
-use Rattle.std.specs.Prelude.{ℕ, zero, suc, not, List, [], ◌∷◌, map, eqb, if◌then◌else◌}
-use Rattle.lists.specs.Base.{foldl, retain, range}
+use Rattle.std.specs.Prelude.{ℕ, zero, suc, not, List, [], ◌∷◌, ◌++◌, map, eqb, if◌then◌else◌}
+use Rattle.lists.specs.Base.{retain, range}
 use Rattle.model.specs.declared.BaselineGuillotineHeuristic.{BaselineGuillotineHeuristic}
 use Rattle.candidate.specs.declared.Candidate.{Candidate as Words}
 use Rattle.candidate.specs.Entries.{cut_of, insertion_word, on_board}
-use Rattle.candidate.specs.Moves.{new_words, moved_up, with_insertion, with_unused}
-use Rattle.candidate.specs.Stands.{placed_words}
+use Rattle.candidate.specs.Moves.{new_words, moved_up}
+use Rattle.candidate.specs.Stands.{placed_words, unused_numbers}
 use Rattle.evaluation.specs.Keys.{elem}
 
 -- ---- pushes in a row
 
 unfoldable pub with_insertions : Words → List ℕ → Words
-with_insertions k words = foldl with_insertion k words
+with_insertions k words =
+    record { boards = k.boards; sheets = k.sheets; insertions = record { items = placed_words k ++ words }; unused = k.unused }
 
 unfoldable pub with_unused_cuts : Words → List ℕ → Words
-with_unused_cuts k cuts = foldl with_unused k cuts
+with_unused_cuts k cuts =
+    record { boards = k.boards; sheets = k.sheets; insertions = k.insertions; unused = record { items = unused_numbers k ++ cuts } }
 
 -- ---- the donor's cuts
 
@@ -39,21 +41,13 @@ index_of x (y ∷ ys) = if eqb y x then zero else suc (index_of x ys)
 
 -- ---- the child
 
--- the donor's sheet alone, on its board, before the boards of the left parent that are left
-unfoldable pub child_sheet : Words → Words → ℕ → BaselineGuillotineHeuristic → Words
-child_sheet left right board h =
-    let made = with_insertions new_words (donated (placed_words right) board h) in
-    record {
-      boards = moved_up left.boards (index_of board left.boards) 0;
-      sheets = 1;
-      insertions = made.insertions;
-      placed = made.placed;
-      unused = made.unused;
-      unused_count = made.unused_count;
-    }
+-- one sheet on a board, with the insertions that were made, before the other boards of the first parent
+unfoldable pub sheet_of : Words → Words → ℕ → Words
+sheet_of left made board =
+    record { boards = moved_up left.boards (index_of board left.boards) 0; sheets = 1; insertions = made.insertions; unused = made.unused }
 
 -- crossover_child_from_donor_bin, of so many cuts
 unfoldable pub child_words : ℕ → Words → Words → ℕ → BaselineGuillotineHeuristic → Words
 child_words cuts left right board h =
-    let sheet = child_sheet left right board h in
+    let sheet = sheet_of left (with_insertions new_words (donated (placed_words right) board h)) board in
     with_unused_cuts sheet (others_than (map cut_of (placed_words sheet)) cuts)

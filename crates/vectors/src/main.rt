@@ -32,6 +32,7 @@ fn is_equal(file: &[u8], text: &[u8]) -> bool {
     printed.as_slice() == text
 }
 
+// It goes on while there is a pair: a pair is as long as its own words say, so no method cuts the corpus.
 fn replay(corpus: &[u8]) -> Tally {
     let mut tally = Tally::default();
     let mut rest = corpus;

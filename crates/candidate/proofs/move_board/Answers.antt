@@ -10,5 +10,5 @@ use Rattle.candidate.proofs.move_board.Goals as goal
 pub returns : goal.returns
 unfolding moved_up
 returns c =
-    let size : length c.args.boards ≡ 64 = search rules in
-    c.insert_word.ensures ∙ moved_loop (get_or c.args.boards c.args.from 0) c.args.boards c.args.from c.args.to c.requires.0 (omega arith)
+    let size : length c.args.boards.now ≡ 64 = search rules in
+    c.insert_word.ensures ∙ moved_loop (get_or c.args.boards.now c.args.from 0) c.args.boards.now c.args.from c.args.to c.requires.0 (omega arith)

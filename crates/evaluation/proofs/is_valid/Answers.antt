@@ -1,16 +1,17 @@
 -- `evaluation::is_valid` meets its contract.
-use native.Mathlib.Omega.{arith}
-use mathlib.Core.Path.{◌≡◌, ap, ◌∙◌}
+use mathlib.Core.Path.{◌≡◌, sym, ap, ◌∙◌}
 use mathlib.Core.Bool.{false, not}
+use borrow.Author.Tests.{eqb-true, eqb-false}
 use Rattle.evaluation.specs.Keys.{repeats}
 use Rattle.evaluation.proofs.Validity.{numbers_once, valid_none, valid_some}
 use Rattle.evaluation.proofs.is_valid.Goals as goal
 
-pub returns-then-c-ne0 : goal.returns-then-c-ne0
-returns-then-c-ne0 c = λ inst a s. valid_some inst a c.args.c s c.if-c-ne0.true
-
-pub returns : goal.returns
-returns c =
+pub returns-then-is_empty : goal.returns-then-is_empty
+returns-then-is_empty c =
     λ inst a s.
-    let once : c.has_duplicate_placed_cut_keys.result ≡ false = c.has_duplicate_placed_cut_keys.ensures ∙ ap repeats c.placed_cuts-keys.ensures ∙ numbers_once inst a c.args.c s in
-    ap not once ∙ valid_none inst a c.args.c s (omega arith)
+    let once : c.has_duplicate_placed_cut_keys.result ≡ false =
+    c.has_duplicate_placed_cut_keys.ensures ∙ ap repeats (c.as_slice.ensures.value ∙ c.placed_cuts.ensures) ∙ numbers_once inst a c.args.c.now s in
+    ap not once ∙ valid_none inst a c.args.c.now s (eqb-true _ _ (sym c.is_empty.ensures ∙ c.if-is_empty.true))
+
+pub returns-else-is_empty : goal.returns-else-is_empty
+returns-else-is_empty c = λ inst a s. c.if-is_empty.false ∙ valid_some inst a c.args.c.now s (eqb-false _ _ (sym c.is_empty.ensures ∙ c.if-is_empty.false))

@@ -1,26 +1,30 @@
 -- `evaluation::placed_cuts` meets its contract.
-use Prim.Native.Nat.{ℕ, ◌<◌}
+use Prim.Native.Nat.{ℕ}
 use native.Mathlib.Omega.{arith}
 use mathlib.Core.Path.{◌≡◌, sym, ap, ◌∙◌}
-use mathlib.Core.List.{List, map}
-use lib.ListN.{length, get_or, take}
-use lib.Seq.{ext_get_or}
-use borrow.Author.Rules.{rules}
-use Rattle.lists.proofs.Sums.{length-map}
-use Rattle.lists.proofs.Maps.{get_d_map, map_take}
+use mathlib.Core.List.{List, [], ◌∷◌, ◌++◌, map}
+use lib.ListN.{length, get_or, take, length-take}
+use lib.Seq.{take-length}
+use Rattle.lists.proofs.Sums.{length-map, map_append}
+use Rattle.lists.proofs.Arrays.{take_next}
 use Rattle.candidate.specs.Entries.{cut_of}
 use Rattle.evaluation.proofs.placed_cuts.Goals as goal
 
+pub push-requires : goal.push-requires
+push-requires c =
+    let so_far : List ℕ = take c.loop-word.word-index c.as_slice-word-items.result.now in
+    (omega arith, omega (arith, ap length c.loop-word.invariant, length-map cut_of so_far, length-take c.loop-word.word-index c.as_slice-word-items.result.now))
+
+pub loop-word-preserved : goal.loop-word-preserved
+loop-word-preserved c =
+    let words : List ℕ = c.as_slice-word-items.result.now in
+    let i : ℕ = c.loop-word.word-index in
+    c.push.ensures.items
+    ∙ (λ k. c.loop-word.invariant k ++ (c.cut_of.ensures k ∷ []))
+    ∙ sym (ap (map cut_of) (take_next words i 0 c.loop-word-test.true) ∙ map_append cut_of (take i words) (get_or words i 0 ∷ []))
+
 pub returns : goal.returns
 returns c =
-    let words : List ℕ = c.args.c.insertions in
-    let room : length words ≡ 64 = search rules in
-    let all : c.map.result ≡ map cut_of words =
-    ext_get_or 0 c.map.result (map cut_of words) (omega (arith, c.map.ensures.items.long, length-map cut_of words)) λ k h.
-    let below : k < 64 = omega (arith, c.map.ensures.items.long) in
-    let here : k < length words = omega (arith) in
-    let called = c.map.ensures.items.at k 0 0 below in
-    let is : get_or c.map.result k 0 ≡ cut_of (get_or words k 0) = search rules in
-    is ∙ sym (get_d_map cut_of words k 0 0 here)
-    in
-    ap (take c.args.c.placed) all ∙ sym (map_take cut_of c.args.c.placed words)
+    let words : List ℕ = c.as_slice-word-items.result.now in
+    let all : c.loop-word.word-index ≡ length words = omega arith in
+    c.loop-word.invariant ∙ ap (map cut_of) (ap (λ (n : ℕ). take n words) all ∙ take-length words ∙ c.as_slice-word-items.ensures.value)

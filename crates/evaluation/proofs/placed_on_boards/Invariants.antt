@@ -4,4 +4,4 @@ use Rattle.evaluation.proofs.OnBoards.{Summed}
 use Rattle.evaluation.proofs.placed_on_boards.Given as goal
 
 abbrev pub invariant-loop-word : goal.invariant-loop-word
-invariant-loop-word l = Summed l.cuts (take l.word-index l.insertions) l.areas
+invariant-loop-word l = Summed l.inst (take l.word-index l.insertions) l.areas

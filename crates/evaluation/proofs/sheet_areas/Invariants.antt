@@ -4,11 +4,10 @@ use mathlib.Core.Path.{◌≡◌}
 use mathlib.Core.List.{map}
 use lib.ListN.{length, get_or, take}
 use Rattle.model.specs.Types.{stock_area}
-use Rattle.rows.specs.Rows.{stock_at}
+use Rattle.problem.specs.Problem.{board_in}
 use Rattle.evaluation.proofs.sheet_areas.Given as goal
 
 abbrev pub invariant-loop-k : goal.invariant-loop-k
 invariant-loop-k l = (l.c.sheets ≤ 64)
     × (length l.c.boards ≡ 64)
-    × (length l.areas ≡ 64)
-    × (take l.k l.areas ≡ map (λ b. record { placed = get_or l.placed b 0; board = stock_area (stock_at l.stock b) }) (take l.k l.c.boards))
+    × (l.areas.items ≡ map (λ b. record { placed = get_or l.placed b 0; board = stock_area (board_in l.inst b) }) (take l.k l.c.boards))

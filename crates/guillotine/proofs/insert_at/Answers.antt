@@ -1,17 +1,19 @@
--- `guillotine::insert_at` meets its contract: with merges by value, else in place.
-use mathlib.Core.Path.{sym, ◌∙◌}
-use native.Mathlib.Omega.{arith}
-use Rattle.guillotine.proofs.Steps.{small_parts, unmerged}
-use Rattle.rect_words.proofs.Words.{length_rects}
+-- `guillotine::insert_at` meets its contract: the steps of `Steps`, one for each call.
+use Rattle.guillotine.proofs.Steps.{small_rect, room, scannable, replaced}
 use Rattle.guillotine.proofs.insert_at.Goals as goal
 
-pub merges_any-requires : goal.merges_any-requires
-merges_any-requires c =
-    let small = small_parts c.args.kerf_width c.args.sheet.now c.args.index c.args.free_rect c.args.placed c.args.direction c.requires.0 c.requires.1 c.requires.2 c.bottom_remainder-bottom.result c.right_remainder-right.result c.bottom_remainder-bottom.ensures c.right_remainder-right.ensures in
-    (c.requires.0, omega (arith, c.requires.1.inside, length_rects c.args.sheet.now), small.0, small.1)
+pub split_free_rect_in_direction-requires : goal.split_free_rect_in_direction-requires
+split_free_rect_in_direction-requires c = (
+  room c.args.kerf_width c.args.free.now c.args.index c.args.free_rect c.args.placed c.args.direction c.requires.0 c.requires.1 c.requires.2 c.swap_remove.new.self c.swap_remove.ensures,
+  small_rect c.args.kerf_width c.args.free.now c.args.index c.args.free_rect c.args.placed c.args.direction c.requires.0 c.requires.1 c.requires.2,
+  c.requires.2,
+)
 
-pub replace-requires : goal.replace-requires
-replace-requires c = (record { room = c.requires.0.room; few = omega (arith, c.requires.0.few) }, omega (arith, c.requires.1.inside, length_rects c.args.sheet.now), c.requires.0.few)
+pub merge_free_rects-requires : goal.merge_free_rects-requires
+merge_free_rects-requires c =
+    rw c.len-fresh.ensures.value (scannable c.args.kerf_width c.args.free.now c.args.index c.args.free_rect c.args.placed c.args.direction c.requires.0 c.requires.1 c.requires.2 c.swap_remove.new.self c.swap_remove.ensures c.split_free_rect_in_direction.new.free c.split_free_rect_in_direction.ensures)
 
 pub returns : goal.returns
-returns c = unmerged c.args.kerf_width c.args.sheet.now c.args.index c.args.free_rect c.args.placed c.args.direction c.requires.0 c.requires.1 c.requires.2 c.bottom_remainder-bottom.result c.right_remainder-right.result c.bottom_remainder-bottom.ensures c.right_remainder-right.ensures c.replace.new.sheet (sym c.if-merges_any.false ∙ c.merges_any.ensures) c.replace.ensures
+returns c =
+    replaced c.args.kerf_width c.args.free.now c.args.index c.args.free_rect c.args.placed c.args.direction c.requires.0 c.requires.1 c.requires.2 c.swap_remove.new.self c.swap_remove.ensures c.split_free_rect_in_direction.new.free c.split_free_rect_in_direction.ensures
+    c.merge_free_rects.new.free c.merge_free_rects.result c.merge_free_rects.ensures.merged c.merge_free_rects.ensures.any

@@ -1,31 +1,27 @@
--- `optimizer::optimize_cuts` meets its contract: the tables show the file's instance.
-use mathlib.Core.Path.{◌≡◌}
-use lib.ListN.{length}
-use Rattle.project.proofs.Shape.{passed_long}
+-- `optimizer::optimize_cuts` meets its contract: the problem is the file's.
+use Prim.Native.Nat.{ℕ}
+use mathlib.Core.Path.{ap, ◌∙◌}
+use mathlib.Core.List.{List}
+use Rattle.model.specs.Types.{effort_of}
+use Rattle.model.specs.Project.{project_of}
 use Rattle.optimizer.proofs.Ends.{ends_as, searched_as}
-use Rattle.optimizer.proofs.FromFile.{shows_instance, shows_tables}
-use borrow.Author.Rules.{rules}
+use Rattle.optimizer.proofs.FromFile.{is_project, file_sound}
 use Rattle.optimizer.proofs.optimize_cuts.Goals as goal
 
-pub kerf_width-requires : goal.kerf_width-requires
-kerf_width-requires c = passed_long c.args.file.now c.requires.0
-
-pub effort-effort-requires : goal.effort-effort-requires
-effort-effort-requires c = passed_long c.args.file.now c.requires.0
-
-pub search_plan-requires : goal.search_plan-requires
-search_plan-requires c = (
-  (let wide : length c.stock_table-stock_table.result.words ≡ 384 = search rules in
-      let long : length c.args.cut_table.words ≡ 448 = search rules in
-      shows_tables c.args.file.now c.stock_table-stock_table.result.words c.args.cut_table.words ((record { kerf_width = c.kerf_width.result; stock = c.stock_table-stock_table.result.count; cuts = c.args.cut_table.count })) c.requires.0 (λ i. (c.shared_slice_known-1.given i).fits) c.stock_table-stock_table.ensures c.requires.3 c.kerf_width.ensures wide long),
-  c.requires.1,
-  c.requires.2,
-)
+pub new-inst-requires : goal.new-inst-requires
+new-inst-requires c =
+    file_sound c.args.file.now (c.as_slice.ensures.value ∙ c.stock_instances-stock.ensures) c.requires.2
+    (c.kerf_width.ensures ∙ ap (λ (bytes : List ℕ). (project_of bytes).kerf) c.project-project.ensures.value)
+    c.project-project.ensures.checked
 
 pub returns : goal.returns
 returns c = (
-  ends_as (searched_as ((let wide : length c.stock_table-stock_table.result.words ≡ 384 = search rules in
-      let long : length c.args.cut_table.words ≡ 448 = search rules in
-      shows_instance c.args.file.now c.stock_table-stock_table.result.words c.args.cut_table.words ((record { kerf_width = c.kerf_width.result; stock = c.stock_table-stock_table.result.count; cuts = c.args.cut_table.count })) c.requires.0 (λ i. (c.shared_slice_known-1.given i).fits) c.stock_table-stock_table.ensures c.requires.3 c.kerf_width.ensures wide long)) c.effort-effort.ensures) c.search_plan.ensures.0,
+  ends_as
+      (searched_as
+      (c.new-inst.ensures
+      ∙ is_project c.args.file.now (c.as_slice.ensures.value ∙ c.stock_instances-stock.ensures) c.requires.2
+      (c.kerf_width.ensures ∙ ap (λ (bytes : List ℕ). (project_of bytes).kerf) c.project-project.ensures.value))
+      (c.effort.ensures ∙ ap (λ (bytes : List ℕ). effort_of (project_of bytes).effort) c.project-project.ensures.value))
+      c.search_plan.ensures.0,
   c.search_plan.ensures.1,
 )

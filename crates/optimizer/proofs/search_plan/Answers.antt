@@ -2,7 +2,6 @@
 use mathlib.Core.Path.{refl, sym}
 use Rattle.std.proofs.lemmas.Result.{err_from_is_err_and}
 use Rattle.model.specs.Search.{search_numbers, heuristic_variants}
-use Rattle.candidate.specs.Stands.{instance_in}
 use Rattle.optimizer.proofs.Ends.{searched_refused}
 use Rattle.optimizer.proofs.search_plan.Goals as goal
 
@@ -10,4 +9,4 @@ pub returns-in_err-basic_feasibility_prefilter : goal.returns-in_err-basic_feasi
 returns-in_err-basic_feasibility_prefilter c =
     let exit = err_from_is_err_and c.from_residual.result c.from_residual.ensures.1 in
     rw (exit.1, exit.2)
-    (record { ends = (searched_refused heuristic_variants (instance_in c.args.stock.now c.args.cuts.now c.args.inst) (search_numbers c.args.effort) _ (sym c.in_err-basic_feasibility_prefilter.ensures), refl) }, refl)
+    (record { ends = (searched_refused heuristic_variants c.args.inst.now (search_numbers c.args.effort) _ (sym c.in_err-basic_feasibility_prefilter.ensures), refl) }, refl)

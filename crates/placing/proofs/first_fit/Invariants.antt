@@ -3,4 +3,4 @@ use Rattle.placing.proofs.Tries.{Tried}
 use Rattle.placing.proofs.first_fit.Given as goal
 
 abbrev pub invariant-loop-j : goal.invariant-loop-j
-invariant-loop-j l = Tried l.inst.kerf_width (record { cut = l.cut; heuristic = l.h }) l.stock l.boards l.inst.stock l.sheets l.initial.free l.free l.j
+invariant-loop-j l = Tried l.inst (record { cut = l.cut; heuristic = l.h }) l.boards l.sheets l.initial.free l.free l.j

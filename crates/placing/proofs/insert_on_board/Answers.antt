@@ -1,17 +1,12 @@
 -- `placing::insert_on_board` meets its contract.
-use Prim.Native.Nat.{◌+◌, ◌-◌, ◌*◌}
+use mathlib.Core.List.{[]}
 use native.Mathlib.Omega.{arith}
-use mathlib.Core.Path.{◌≡◌, ◌∙◌}
-use Rattle.placing.proofs.OnBoard.{some_place, lent_insertable, inserts_on_board}
+use Rattle.lists.proofs.Arrays.{get_d_any}
+use Rattle.placing.proofs.OnBoard.{inserts_on_board}
 use Rattle.placing.proofs.insert_on_board.Goals as goal
-
-pub try_insert-inserted-requires : goal.try_insert-inserted-requires
-try_insert-inserted-requires c =
-    let size : 261 * c.args.board + 261 - 261 * c.args.board ≡ 261 = omega arith in
-    lent_insertable c.args.free.now c.args.board c.requires.known c.requires.room _ size c.args.kerf_width c.requires.block
 
 pub returns : goal.returns
 returns c =
-    let size : 261 * c.args.board + 261 - 261 * c.args.board ≡ 261 = omega arith in
-    inserts_on_board c.args.free.now c.args.board c.requires.known c.requires.room _ size c.args.kerf_width c.args.stock.pattern c.args.cut c.args.h
-    c.try_insert-inserted.new.sheet c.try_insert-inserted.result c.is_some.result (c.is_some.ensures ∙ some_place c.try_insert-inserted.result) c.try_insert-inserted.ensures
+    let same = get_d_any c.args.free.now c.args.board c.index-free-board.result [] (omega (arith, c.requires.known, c.told-free)) in
+    inserts_on_board c.args.free.now c.args.board c.args.kerf_width c.args.stock.pattern c.args.cut c.args.h c.try_insert.new.free c.try_insert.result c.is_some.result c.is_some.ensures
+    (rw same at c.try_insert.ensures)

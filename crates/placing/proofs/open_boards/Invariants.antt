@@ -1,6 +1,8 @@
 -- `placing::open_boards` meets its contract.
-use Rattle.placing.proofs.Opening.{Opening}
+use mathlib.Core.Path.{◌≡◌}
+use lib.ListN.{length, take}
+use Rattle.placing.specs.Rebuilding.{OpensBoards}
 use Rattle.placing.proofs.open_boards.Given as goal
 
 abbrev pub invariant-loop-board : goal.invariant-loop-board
-invariant-loop-board l = Opening l.stock l.boards l.initial.free l.free l.board-index
+invariant-loop-board l = (length l.free ≡ 64) × OpensBoards l.inst (take l.board-index l.boards) l.initial.free l.free

@@ -9,4 +9,4 @@ use Rattle.plan_words.proofs.put_head.Goals as goal
 pub returns : goal.returns
 returns c =
     c.put_words.ensures
-    ∙ ap (λ (w : List ℕ). patch c.args.plan.now c.args.at w) (head_row c.args.stock _ _ c.args.used c.args.saw c.args.pieces c.args.waste c.args.nodes c.low_word.ensures c.high_word.ensures)
+    ∙ ap (λ (w : List ℕ). patch c.args.part.now 0 w) (head_row c.args.stock _ _ c.args.used c.args.saw c.args.pieces c.args.waste c.args.nodes c.low_word.ensures c.high_word.ensures)

@@ -1,21 +1,21 @@
 -- `prefilter::basic_feasibility_prefilter` meets its contract: by its two tests.
-use mathlib.Core.Path.{sym, ◌∙◌}
-use native.Mathlib.Omega.{arith}
-use lib.Dec.{lit≤}
-use Rattle.prefilter.proofs.Fitting.{areas_held, refused_15, refused_16, passed}
+use Rattle.prefilter.proofs.Tests.{boards_held, panels_held, refused_15, refused_16, passed}
 use Rattle.prefilter.proofs.basic_feasibility_prefilter.Goals as goal
 
 pub returns-then-not-all_fit : goal.returns-then-not-all_fit
-returns-then-not-all_fit c = sym (refused_15 c.args.stock.now c.args.cuts.now c.args.inst (sym c.all_fit.ensures ∙ c.if-not-all_fit.true))
+returns-then-not-all_fit c = refused_15 c.args.inst.now c.stock-stock.ensures.value c.cuts-cuts.ensures.value c.all_fit.ensures c.if-not-all_fit.true
 
-pub total_area-boards-requires : goal.total_area-boards-requires
-total_area-boards-requires c = (lit≤ tt, lit≤ tt, c.requires.stock_room, (areas_held c.args.stock.now c.args.cuts.now c.args.inst c.requires).0)
+pub total_stock_area-requires : goal.total_stock_area-requires
+total_stock_area-requires c = rw c.stock-stock.ensures.value (boards_held c.args.inst.now c.stock-stock.ensures.sound.ranged)
 
-pub total_area-panels-requires : goal.total_area-panels-requires
-total_area-panels-requires c = (lit≤ tt, lit≤ tt, c.requires.cut_room, (areas_held c.args.stock.now c.args.cuts.now c.args.inst c.requires).1)
+pub total_cut_area-requires : goal.total_cut_area-requires
+total_cut_area-requires c = rw c.cuts-cuts.ensures.value (panels_held c.args.inst.now c.stock-stock.ensures.sound.ranged)
 
-pub returns-then-boards-panels : goal.returns-then-boards-panels
-returns-then-boards-panels c = sym (refused_16 c.args.stock.now c.args.cuts.now c.args.inst ((sym c.all_fit.ensures ∙ c.if-not-all_fit.false)) (omega (arith, c.if-boards-panels.true, c.total_area-boards.ensures, c.total_area-panels.ensures)))
+pub returns-then-total_stock_area-total_cut_area :
+    goal.returns-then-total_stock_area-total_cut_area
+returns-then-total_stock_area-total_cut_area c =
+    refused_16 c.args.inst.now c.stock-stock.ensures.value c.cuts-cuts.ensures.value c.all_fit.ensures c.if-not-all_fit.false c.total_stock_area.ensures c.total_cut_area.ensures c.if-total_stock_area-total_cut_area.true
 
 pub returns : goal.returns
-returns c = sym (passed c.args.stock.now c.args.cuts.now c.args.inst ((sym c.all_fit.ensures ∙ c.if-not-all_fit.false)) (omega (arith, c.if-boards-panels.false, c.total_area-boards.ensures, c.total_area-panels.ensures)))
+returns c =
+    passed c.args.inst.now c.stock-stock.ensures.value c.cuts-cuts.ensures.value c.all_fit.ensures c.if-not-all_fit.false c.total_stock_area.ensures c.total_cut_area.ensures c.if-total_stock_area-total_cut_area.false

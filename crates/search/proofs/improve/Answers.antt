@@ -1,25 +1,22 @@
 -- `search::improve` meets its contract.
 use mathlib.Core.Path.{ap, ◌∙◌}
-use Rattle.model.specs.Candidate.{Candidate, reinsert_unused_first_fit, compact_worst_bin}
-use Rattle.model.specs.Expand.{ProblemInstance}
-use Rattle.candidate.specs.Stands.{instance_in}
+use Rattle.model.specs.Candidate.{reinsert_unused_first_fit, compact_worst_bin}
 use Rattle.search.specs.Improved.{improved}
 use Rattle.search.proofs.Passes.{compacted_shown}
 use Rattle.search.proofs.improve.Goals as goal
 
-pub reinsert_unused_first_fit-requires : goal.reinsert_unused_first_fit-requires
-reinsert_unused_first_fit-requires c =
-    let inst : ProblemInstance = instance_in c.args.stock.now c.args.cuts.now c.args.inst in
-    (c.requires.0, c.compact_worst_bin_for_repair-compacted.ensures.stands, compacted_shown inst c.reinsert_unused_first_fit-repaired.new.free c.reinsert_unused_first_fit-repaired.result c.compact_worst_bin_for_repair-compacted.result c.compact_worst_bin_for_repair-compacted.ensures c.reinsert_unused_first_fit-repaired.ensures.leaves.shown)
+pub reinsert_unused_first_fit-requires-2 : goal.reinsert_unused_first_fit-requires-2
+reinsert_unused_first_fit-requires-2 c = (
+  c.compact_worst_bin_for_repair.ensures.stands,
+  compacted_shown c.args.inst.now c.reinsert_unused_first_fit.new.free c.reinsert_unused_first_fit.new.c c.compact_worst_bin_for_repair.new.c c.compact_worst_bin_for_repair.ensures c.reinsert_unused_first_fit.ensures.shown,
+)
 
 pub returns : goal.returns
 unfolding improved
 returns c =
-    let inst : ProblemInstance = instance_in c.args.stock.now c.args.cuts.now c.args.inst in
-    let repair : Candidate → Candidate = reinsert_unused_first_fit inst.kerf_width c.args.h in (
-      record {
-        is = c.reinsert_unused_first_fit.ensures.is ∙ ap repair (c.compact_worst_bin_for_repair-compacted.ensures.is ∙ ap (compact_worst_bin inst.cuts) c.reinsert_unused_first_fit-repaired.ensures.is);
-        stands = c.reinsert_unused_first_fit.ensures.stands;
-      },
-      c.reinsert_unused_first_fit.ensures.leaves.behind ∙ c.reinsert_unused_first_fit-repaired.ensures.leaves.behind ∙ c.show_sheets.ensures.behind,
-    )
+    let inst = c.args.inst.now in
+    record {
+      is = c.reinsert_unused_first_fit-2.ensures.is
+          ∙ ap (reinsert_unused_first_fit inst.kerf_width c.args.h) (c.compact_worst_bin_for_repair.ensures.is ∙ ap (compact_worst_bin inst.cuts) c.reinsert_unused_first_fit.ensures.is);
+      stands = c.reinsert_unused_first_fit-2.ensures.stands;
+    }

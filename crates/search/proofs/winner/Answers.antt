@@ -1,12 +1,9 @@
 -- `search::winner` meets its contract: what is left of the rounds gives what all of them give.
-use Prim.Native.Nat.{◌<◌}
 use native.Mathlib.Omega.{arith}
 use mathlib.Core.Path.{◌≡◌, sym, ap, ◌∙◌, subst}
 use mathlib.Core.Option.{Option}
 use Rattle.model.specs.Candidate.{Candidate}
-use Rattle.model.specs.Expand.{ProblemInstance}
 use Rattle.model.specs.Search.{initial_population, run_generations}
-use Rattle.candidate.specs.Stands.{instance_in}
 use Rattle.seeds.specs.Rows.{numbers_of}
 use Rattle.stored.specs.Populations.{population_in}
 use Rattle.stored.proofs.Populations.{only_wider, only_then}
@@ -16,25 +13,26 @@ use Rattle.search.proofs.winner.Goals as goal
 
 pub loop-round-preserved : goal.loop-round-preserved
 loop-round-preserved c =
-    let inst : ProblemInstance = instance_in c.args.stock.now c.args.cuts.now c.args.inst in
-    let here : c.loop-round._round < c.args.n.generations = c.loop-round-test.true in (
-      c.next_generation-count.auto.ws ∙ c.loop-round.invariant.0,
-      c.next_generation-count.auto.free ∙ c.loop-round.invariant.1,
-      run_step inst _ c.args.n.survivors c.args.n.generations (population_in inst c.initial_population-count.new.ws 0 c.initial_population-count.result) c.initial_population-count.new.ws c.loop-round._round c.loop-round.base c.loop-round.count c.loop-round.ws c.loop-round.invariant.2 c.next_generation-count.new.ws c.next_generation-count.result here c.requires.3 c.next_generation-count.ensures.0 c.next_generation-count.ensures.1,
-      c.next_generation-count.ensures.2 ∙ c.loop-round.invariant.3,
-    )
+    let inst = c.args.inst.now in
+    let first = population_in inst c.initial_population-count.new.ws 0 c.initial_population-count.result in
+    run_step inst c.default_heuristic-h.result c.args.n.survivors c.args.n.generations first c.initial_population-count.new.ws c.loop-round._round c.loop-round.slots.base c.loop-round.slots.count c.loop-round.ws c.loop-round.invariant
+    c.next_generation-slots.new.ws c.next_generation-slots.result.base c.next_generation-slots.result.count c.next_generation-slots.ensures.1 c.loop-round-test.true c.requires.2
+    c.next_generation-slots.ensures.0 c.next_generation-slots.ensures.2
 
 pub returns : goal.returns
 unfolding numbers_of
 returns c =
-    let inst : ProblemInstance = instance_in c.args.stock.now c.args.cuts.now c.args.inst in
+    let inst = c.args.inst.now in
     let n = numbers_of c.args.n in
     let rows = c.args.rows.now in
-    let last : population_in inst c.loop-round.ws c.loop-round.base c.loop-round.count ≡ run_generations inst c.default_heuristic-h.result n.survivors n.generations (initial_population rows inst n) =
-    run_all inst c.default_heuristic-h.result c.args.n.survivors c.args.n.generations (population_in inst c.initial_population-count.new.ws 0 c.initial_population-count.result) c.initial_population-count.new.ws c.loop-round._round c.loop-round.base c.loop-round.count c.loop-round.ws c.loop-round.invariant.2 c.loop-round-test.false
-    ∙ ap (run_generations inst c.default_heuristic-h.result n.survivors n.generations) c.initial_population-count.ensures.0.is
+    let h = c.default_heuristic-h.result in
+    let first = population_in inst c.initial_population-count.new.ws 0 c.initial_population-count.result in
+    let last : population_in inst c.loop-round.ws c.loop-round.slots.base c.loop-round.slots.count ≡ run_generations inst h n.survivors n.generations (initial_population rows inst n) =
+    run_all inst h c.args.n.survivors c.args.n.generations first c.initial_population-count.new.ws c.loop-round._round c.loop-round.slots.base c.loop-round.slots.count c.loop-round.ws c.loop-round.invariant c.loop-round-test.false
+    ∙ ap (run_generations inst h n.survivors n.generations) c.initial_population-count.ensures.0.is
     in (
-      subst (λ (o : Option Candidate). Chosen inst o c.select_best_valid_candidate.result) (winner_is rows inst n c.default_heuristic-h.result (population_in inst c.loop-round.ws c.loop-round.base c.loop-round.count) (sym c.default_heuristic-h.ensures) last) c.select_best_valid_candidate.ensures,
-      behind_kept c.args.ws.now c.loop-round.ws (only_then 0 96 c.args.ws.now c.initial_population-count.new.ws c.loop-round.ws (only_wider 0 48 c.args.ws.now c.initial_population-count.new.ws c.initial_population-count.ensures.1 0 96 (omega arith) (omega arith)) c.loop-round.invariant.2.only),
-      c.loop-round.invariant.3 ∙ c.initial_population-count.ensures.2,
+      subst (λ (o : Option Candidate). Chosen inst o c.select_best_valid_candidate.result)
+          (winner_is rows inst n h (population_in inst c.loop-round.ws c.loop-round.slots.base c.loop-round.slots.count) (sym c.default_heuristic-h.ensures) last) c.select_best_valid_candidate.ensures,
+      behind_kept c.args.ws.now c.loop-round.ws
+          (only_then 0 96 c.args.ws.now c.initial_population-count.new.ws c.loop-round.ws (only_wider 0 48 c.args.ws.now c.initial_population-count.new.ws c.initial_population-count.ensures.1 0 96 (omega arith) (omega arith)) c.loop-round.invariant.only),
     )

@@ -1,7 +1,6 @@
 -- `seeds::initial_candidate_seed` meets its contract: a seed of the sorted order, or a shuffle.
-use Rattle.std.proofs.Common.{◌≡◌, ℕ, ◌+◌, ◌-◌, ◌<◌, ◌≤◌, ◌++◌, take, drop, sym, ap, ◌∙◌, arith}
+use Rattle.std.proofs.Common.{◌≡◌, ℕ, ◌+◌, ◌-◌, ◌<◌, ◌≤◌, ap, ◌∙◌, arith}
 use Rattle.model.specs.TinyPrng.{wrap}
-use Rattle.shuffle.specs.Shuffle.{shuffled}
 use Rattle.seeds.specs.Rows.{sorted_seeds}
 use Rattle.seeds.proofs.Nth.{is_sorted, is_shuffled}
 use Rattle.seeds.proofs.initial_candidate_seed.Goals as goal
@@ -9,7 +8,7 @@ use Rattle.seeds.proofs.initial_candidate_seed.Goals as goal
 pub returns-then-k-first : goal.returns-then-k-first
 returns-then-k-first c =
     let front : c.args.k < sorted_seeds c.args.rows.now c.args.n = omega (arith, c.sorted_seeds-first.ensures, c.if-k-first.true) in
-    λ inst e o. is_sorted c.args.rows.now c.args.n inst c.args.sorted o c.args.k _ front c.heuristic_at.ensures
+    λ inst o. rw (c.listed.ensures ∙ c.as_slice.ensures.value) (is_sorted c.args.rows.now c.args.n inst c.args.sorted.now.items o c.args.k _ front c.heuristic_at.ensures)
 
 pub returns : goal.returns
 returns c =
@@ -17,5 +16,4 @@ returns c =
     let behind : sorted_seeds c.args.rows.now c.args.n ≤ c.args.k = omega (arith, first, c.if-k-first.false) in
     let number : ℕ = wrap (c.args.n.first_seed + (c.args.k - c.sorted_seeds-first.result)) in
     let seed : number ≡ wrap (c.args.n.first_seed + (c.args.k - sorted_seeds c.args.rows.now c.args.n)) = ap (λ (f : ℕ). wrap (c.args.n.first_seed + (c.args.k - f))) first in
-    λ inst e o. is_shuffled c.args.rows.now c.args.n inst c.args.sorted o c.args.k _ number c.shuffled_order.result behind c.requires.1 seed c.heuristic_at-2.ensures
-    (c.shuffled_order.ensures ∙ ap (λ (m : ℕ). shuffled 0 number (take m c.args.sorted) ++ drop m c.args.sorted) (sym e))
+    λ inst o. is_shuffled c.args.rows.now c.args.n inst c.args.sorted.now.items o c.args.k _ number c.shuffled_order.result.items behind c.requires seed c.heuristic_at-2.ensures c.shuffled_order.ensures

@@ -1,20 +1,27 @@
--- The sheet is made again, with its pieces in the plan; then the rest of its words.
+-- The sheet is made again, with its pieces in the part; then the rest of its words.
+use Prim.Native.Nat.{◌-◌}
 use native.Mathlib.Omega.{arith}
-use mathlib.Core.Path.{refl, sym, ◌∙◌}
-use Rattle.trust.proofs.RoundTrip.{sheet_length}
-use Rattle.candidate.specs.Stands.{instance_in, bin_in}
-use Rattle.sheet_plan.proofs.Making.{bin_board, row_within, row_is}
+use mathlib.Core.Path.{sym, ◌∙◌}
+use borrow.Rule.Slice.PartMut.{same_len_mid}
+use lib.ListN.{length}
+use Rattle.lists.specs.Base.{concat_map}
+use Rattle.model.specs.Sheet.{GuillotineSheet}
+use Rattle.model.specs.Plan.{piece_words}
+use Rattle.candidate.specs.Stands.{bin_in}
+use Rattle.sheet_plan.proofs.Parts.{patch_behind}
+use Rattle.sheet_plan.proofs.Making.{bin_board}
 use Rattle.sheet_plan.proofs.Turns.{finishable}
 use Rattle.sheet_plan.proofs.write_sheet.Goals as goal
 
-pub replay_sheet-p-requires : goal.replay_sheet-p-requires
-replay_sheet-p-requires c = (c.requires.0, c.requires.1, refl, refl, omega (arith, c.requires.2, sheet_length (bin_in ((instance_in c.args.stock.now c.args.cuts.now c.args.n)) c.args.insertions.now c.args.board)))
-
-pub stock_at-s-requires : goal.stock_at-s-requires
-stock_at-s-requires c = row_within c.args.stock.now c.args.cuts.now c.args.n c.args.insertions.now c.args.board c.requires.1 _ refl c.requires.0
-
 pub finish_sheet-requires : goal.finish_sheet-requires
-finish_sheet-requires c = finishable ((instance_in c.args.stock.now c.args.cuts.now c.args.n)) c.requires.0.ranged c.args.insertions.now c.args.board c.requires.1 c.args.at _ _ _ c.replay_sheet-p.result _ ((row_is c.args.stock.now c.args.cuts.now c.args.n c.args.insertions.now c.args.board c.requires.1 _ refl c.stock_at-s.result c.stock_at-s.ensures)) c.replay_sheet-p.ensures.state (omega (arith, c.requires.2, c.replay_sheet-p.auto.plan))
+finish_sheet-requires c =
+    rw (c.as_slice.ensures.value, c.as_slice-2.ensures.value)
+    (finishable c.args.inst.now c.board-s.ensures.sound.ranged c.args.insertions.now c.args.board c.requires.0 _ _ _ c.replay_sheet-p.result _ c.board-s.ensures.value c.replay_sheet-p.ensures.state
+    (omega (arith, c.requires.1, same_len_mid 10 (length c.args.part.now - 10) c.args.part.now _ c.replay_sheet-p.auto.pieces)))
 
 pub returns : goal.returns
-returns c = c.finish_sheet.ensures.finishes ((instance_in c.args.stock.now c.args.cuts.now c.args.n)).kerf_width (bin_in ((instance_in c.args.stock.now c.args.cuts.now c.args.n)) c.args.insertions.now c.args.board) c.args.plan.now (bin_board ((instance_in c.args.stock.now c.args.cuts.now c.args.n)) c.args.insertions.now c.args.board c.requires.1 ∙ sym ((row_is c.args.stock.now c.args.cuts.now c.args.n c.args.insertions.now c.args.board c.requires.1 _ refl c.stock_at-s.result c.stock_at-s.ensures))) c.replay_sheet-p.ensures.state (sym c.replay_sheet-p.auto.plan) c.replay_sheet-p.ensures.pieces
+returns c =
+    let s : GuillotineSheet = bin_in c.args.inst.now c.args.insertions.now c.args.board in
+    c.finish_sheet.ensures.finishes c.args.inst.now.kerf_width s c.args.part.now (bin_board c.args.inst.now c.args.insertions.now c.args.board c.requires.0 ∙ sym c.board-s.ensures.value)
+    (rw (c.as_slice.ensures.value, c.as_slice-2.ensures.value) c.replay_sheet-p.ensures.state) (sym (same_len_mid 10 (length c.args.part.now - 10) c.args.part.now _ c.replay_sheet-p.auto.pieces))
+    (patch_behind c.args.part.now 10 0 (concat_map piece_words s.placed_pieces) _ c.replay_sheet-p.ensures.pieces)

@@ -1,9 +1,9 @@
--- The cut's words are those of the cut of the definition, which Cut::new takes.
+-- The cut is that of the definition, which Cut::new takes.
 use Rattle.subtree.proofs.Cuts.{cut_off_nothing, cut_off_around}
 use Rattle.subtree.proofs.cut_off.Goals as goal
 
-pub returns-in-None : goal.returns-in-None
-returns-in-None c = cut_off_nothing _ _ _ _ c.args.remainder c.in-None.is
+pub returns-in_err-rect : goal.returns-in_err-rect
+returns-in_err-rect c = rw c.from_residual.ensures (cut_off_nothing _ _ _ _ c.args.remainder c.in_err-rect.was)
 
-pub returns-in-Some : goal.returns-in-Some
-returns-in-Some c = cut_off_around _ _ _ _ c.args.remainder _ c.in-Some.is c.requires
+pub returns : goal.returns
+returns c = cut_off_around _ _ _ _ c.args.remainder _ c.in_ok-rect.was c.requires

@@ -1,80 +1,64 @@
 -- `variation::child_of_sheet` meets its contract.
 use Prim.Native.Nat.{ℕ}
 use native.Mathlib.Omega.{arith}
-use mathlib.Core.Path.{◌≡◌, sym, ap, ◌∙◌, subst}
-use mathlib.Core.List.{List, []}
-use mathlib.Core.Option.{some}
+use mathlib.Core.Path.{sym, ap, ◌∙◌}
+use mathlib.Core.List.{List}
 use lib.ListN.{length, get_or}
-use Rattle.model.specs.Expand.{ProblemInstance}
 use Rattle.candidate.specs.declared.Candidate.{Candidate as Words}
 use Rattle.candidate.specs.Moves.{new_words}
-use Rattle.candidate.specs.Stands.{instance_in, placed_words, candidate_in, Stands}
-use Rattle.candidate.proofs.Instances.{cut_count}
-use Rattle.candidate.proofs.Standing.{few_placed}
-use Rattle.variation.specs.Donated.{with_insertions, donated, child_words}
-use Rattle.variation.proofs.Answers.{index_most, board_most, index_found, made_few, made_rebuildable, answer_none, answer_some, sheet_few, child_is}
+use Rattle.candidate.specs.Stands.{placed_words}
+use Rattle.variation.specs.Donated.{with_insertions, donated}
+use Rattle.variation.proofs.Answers.{index_most, board_most, donor_few, index_found, made_rebuildable, answer_none, sheet_room, child_made}
 use Rattle.variation.proofs.child_of_sheet.Goals as goal
 
 pub offset_bounds-right-index : goal.offset_bounds-right-index
-offset_bounds-right-index c = omega (arith, index_most (instance_in c.args.stock.now c.args.cuts.now c.args.inst) c.requires.0.admitted c.requires.0.ranged c.args.h c.args.left c.args.right c.requires.1 c.requires.2 c.args.index c.requires.3)
+offset_bounds-right-index c = omega (arith, index_most c.args.inst.now c.cuts-cuts.ensures.sound c.args.h c.args.left.now c.args.right.now c.requires.0 c.requires.1 c.args.index c.requires.2)
 
 pub bounds-right-index : goal.bounds-right-index
-bounds-right-index c = index_most (instance_in c.args.stock.now c.args.cuts.now c.args.inst) c.requires.0.admitted c.requires.0.ranged c.args.h c.args.left c.args.right c.requires.1 c.requires.2 c.args.index c.requires.3
+bounds-right-index c = index_most c.args.inst.now c.cuts-cuts.ensures.sound c.args.h c.args.left.now c.args.right.now c.requires.0 c.requires.1 c.args.index c.requires.2
 
-pub donor_insertions-made-requires : goal.donor_insertions-made-requires
+pub donor_insertions-requires : goal.donor_insertions-requires
 unfolding new_words
-donor_insertions-made-requires c =
-    let inst : ProblemInstance = instance_in c.args.stock.now c.args.cuts.now c.args.inst in
-    let none : c.new_candidate-new.result.placed ≡ 0 = ap (λ (k : Words). k.placed) c.new_candidate-new.ensures in
-    (board_most inst c.requires.0.admitted c.requires.0.ranged c.args.h c.args.left c.args.right c.requires.1 c.requires.2 c.args.index c.requires.3, omega (arith, none, few_placed inst [] c.args.right c.requires.2 c.requires.0.ranged))
+donor_insertions-requires c = (
+  board_most c.args.inst.now c.cuts-cuts.ensures.sound c.args.h c.args.left.now c.args.right.now c.requires.0 c.requires.1 c.args.index c.requires.2,
+  omega (
+    arith,
+    ap (λ (k : Words). length (placed_words k)) c.new-child.ensures,
+    donor_few c.args.inst.now c.cuts-cuts.ensures.sound c.args.h c.args.left.now c.args.right.now c.requires.0 c.requires.1 c.args.index c.requires.2,
+  ),
+)
 
-pub rebuild_board-requires : goal.rebuild_board-requires
-rebuild_board-requires c =
-    let inst : ProblemInstance = instance_in c.args.stock.now c.args.cuts.now c.args.inst in
-    let words : List ℕ = donated (placed_words c.args.right) (get_or c.args.right.boards c.args.index 0) c.args.h in
-    let made = c.donor_insertions-made.ensures ∙ ap (λ (k : Words). with_insertions k words) c.new_candidate-new.ensures in (
-      c.requires.0,
-      made_rebuildable inst c.requires.0.admitted c.requires.0.ranged c.args.h c.args.left c.args.right c.requires.1 c.requires.2 c.args.index c.requires.3 c.donor_insertions-made.result made c.args.free.now c.requires.4,
-      made_few inst c.requires.0.admitted c.requires.0.ranged c.args.h c.args.left c.args.right c.requires.1 c.requires.2 c.args.index c.requires.3 c.donor_insertions-made.result made,
-    )
+pub rebuild-requires : goal.rebuild-requires
+rebuild-requires c =
+    let words : List ℕ = donated (placed_words c.args.right.now) (get_or c.args.right.now.boards c.args.index 0) c.args.h in
+    let made = c.donor_insertions.ensures ∙ ap (λ (k : Words). with_insertions k words) c.new-child.ensures in
+    made_rebuildable c.args.inst.now c.cuts-cuts.ensures.sound c.args.h c.args.left.now c.args.right.now c.requires.0 c.requires.1 c.args.index c.requires.2
+    c.donor_insertions.new.c made c.as_slice.result.now c.as_slice.ensures.value
 
-pub returns-then-not-rebuild_board : goal.returns-then-not-rebuild_board
-unfolding instance_in
-returns-then-not-rebuild_board c =
-    let inst : ProblemInstance = instance_in c.args.stock.now c.args.cuts.now c.args.inst in
-    let words : List ℕ = donated (placed_words c.args.right) (get_or c.args.right.boards c.args.index 0) c.args.h in
-    let made = c.donor_insertions-made.ensures ∙ ap (λ (k : Words). with_insertions k words) c.new_candidate-new.ensures in
-    let none = answer_none inst c.requires.0.admitted c.requires.0.ranged c.args.h c.args.left c.args.right c.requires.1 c.requires.2 c.args.index c.requires.3 c.donor_insertions-made.result made
-    (sym c.rebuild_board.ensures.0 ∙ c.if-not-rebuild_board.true)
-    in
-    (none, c.rebuild_board.ensures.1)
+pub returns-then-not-rebuild : goal.returns-then-not-rebuild
+returns-then-not-rebuild c =
+    let words : List ℕ = donated (placed_words c.args.right.now) (get_or c.args.right.now.boards c.args.index 0) c.args.h in
+    let made = c.donor_insertions.ensures ∙ ap (λ (k : Words). with_insertions k words) c.new-child.ensures in
+    answer_none c.args.inst.now c.cuts-cuts.ensures.sound c.args.h c.args.left.now c.args.right.now c.requires.0 c.requires.1 c.args.index c.requires.2
+    c.donor_insertions.new.c made c.as_slice.result.now c.as_slice.ensures.value (sym c.rebuild.ensures.answer ∙ c.if-not-rebuild.true)
 
-pub child_sheet-sheet-requires : goal.child_sheet-sheet-requires
-child_sheet-sheet-requires c = index_found (instance_in c.args.stock.now c.args.cuts.now c.args.inst) c.requires.0.admitted c.requires.0.ranged c.args.h c.args.left c.args.right c.requires.1 c.requires.2 c.args.index c.requires.3
+pub child_sheet-requires : goal.child_sheet-requires
+child_sheet-requires c = index_found c.args.inst.now c.cuts-cuts.ensures.sound c.args.h c.args.left.now c.args.right.now c.requires.0 c.requires.1 c.args.index c.requires.2
 
 pub others_unused-requires : goal.others_unused-requires
 others_unused-requires c =
-    let inst : ProblemInstance = instance_in c.args.stock.now c.args.cuts.now c.args.inst in
-    let words : List ℕ = donated (placed_words c.args.right) (get_or c.args.right.boards c.args.index 0) c.args.h in
-    let made = c.donor_insertions-made.ensures ∙ ap (λ (k : Words). with_insertions k words) c.new_candidate-new.ensures in
-    let few = sheet_few inst c.requires.0.admitted c.requires.0.ranged c.args.h c.args.left c.args.right c.requires.1 c.requires.2 c.args.index c.requires.3 c.donor_insertions-made.result made c.child_sheet-sheet.result c.child_sheet-sheet.ensures in
-    (few.0, omega (arith, few.1, c.requires.0.few_cuts))
+    let words : List ℕ = donated (placed_words c.args.right.now) (get_or c.args.right.now.boards c.args.index 0) c.args.h in
+    let made = c.donor_insertions.ensures ∙ ap (λ (k : Words). with_insertions k words) c.new-child.ensures in
+    let room = sheet_room c.args.inst.now c.cuts-cuts.ensures.sound c.args.h c.args.left.now c.args.right.now c.requires.0 c.requires.1 c.args.index c.requires.2
+    c.donor_insertions.new.c made c.as_slice.result.now c.as_slice.ensures.value c.child_sheet.new.made c.child_sheet.ensures
+    in
+    omega (arith, ap length room, ap length c.cuts-cuts.ensures.value, c.cuts-cuts.ensures.sound.ranged.few_panels)
 
 pub returns : goal.returns
-unfolding instance_in
 returns c =
-    let stock : List ℕ = c.args.stock.now in
-    let cuts : List ℕ = c.args.cuts.now in
-    let inst : ProblemInstance = instance_in stock cuts c.args.inst in
-    let words : List ℕ = donated (placed_words c.args.right) (get_or c.args.right.boards c.args.index 0) c.args.h in
-    let made = c.donor_insertions-made.ensures ∙ ap (λ (k : Words). with_insertions k words) c.new_candidate-new.ensures in
-    let answer = answer_some inst c.requires.0.admitted c.requires.0.ranged c.args.h c.args.left c.args.right c.requires.1 c.requires.2 c.args.index c.requires.3 c.donor_insertions-made.result made
-    (sym c.rebuild_board.ensures.0 ∙ c.if-not-rebuild_board.false)
-    in
-    let result : c.others_unused.result ≡ child_words (length inst.cuts) c.args.left c.args.right (get_or c.args.right.boards c.args.index 0) c.args.h =
-    child_is inst c.requires.0.admitted c.requires.0.ranged c.args.h c.args.left c.args.right c.requires.1 c.requires.2 c.args.index c.requires.3 c.donor_insertions-made.result made c.child_sheet-sheet.result c.others_unused.result c.args.inst.cuts
-    c.child_sheet-sheet.ensures (cut_count stock cuts c.args.inst) c.others_unused.ensures
-    in (
-      record { is = answer.0 ∙ ap (λ (k : Words). some (candidate_in inst k)) (sym result); stands = subst (Stands inst []) (sym result) answer.1 },
-      c.rebuild_board.ensures.1,
-    )
+    let words : List ℕ = donated (placed_words c.args.right.now) (get_or c.args.right.now.boards c.args.index 0) c.args.h in
+    let made = c.donor_insertions.ensures ∙ ap (λ (k : Words). with_insertions k words) c.new-child.ensures in
+    child_made c.args.inst.now c.cuts-cuts.ensures.sound c.args.h c.args.left.now c.args.right.now c.requires.0 c.requires.1 c.args.index c.requires.2
+    c.donor_insertions.new.c made c.as_slice.result.now c.as_slice.ensures.value c.child_sheet.new.made c.child_sheet.ensures
+    c.others_unused.new.c (length c.cuts-cuts.result.now) (ap length c.cuts-cuts.ensures.value) c.others_unused.ensures
+    (sym c.rebuild.ensures.answer ∙ c.if-not-rebuild.false)

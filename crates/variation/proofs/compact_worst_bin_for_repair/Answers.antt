@@ -1,43 +1,53 @@
 -- `variation::compact_worst_bin_for_repair` meets its contract.
 use Prim.Native.Nat.{ℕ, ◌≤◌, ◌<◌}
 use native.Mathlib.Omega.{arith}
-use mathlib.Core.Path.{◌≡◌, sym, ap, ◌∙◌}
-use mathlib.Core.List.{List, []}
+use mathlib.Core.Path.{◌≡◌, ap, ◌∙◌}
 use lib.ListN.{length}
-use Rattle.candidate.specs.declared.Instance.{Instance}
 use Rattle.candidate.specs.declared.Candidate.{Candidate as Words}
-use Rattle.candidate.specs.Stands.{instance_in, Tables, candidate_in, Stands}
+use Rattle.candidate.specs.Stands.{candidate_in}
 use Rattle.evaluation.specs.OnSheets.{IsWorst}
-use Rattle.evaluation.proofs.Sheets.{stock_count, few_sheets}
-use Rattle.evaluation.proofs.Scored.{bin_count, first_areas}
-use Rattle.variation.specs.Compact.{put_back}
-use Rattle.variation.proofs.Compacting.{compacted_words, compacted_one}
-use borrow.Author.Rules.{rules}
+use Rattle.variation.specs.Compact.{put_back, apart}
+use Rattle.variation.proofs.Sheets.{index_known, areas_count}
+use Rattle.variation.proofs.Compacting.{compacted_by, compacted_one}
 use Rattle.variation.proofs.compact_worst_bin_for_repair.Goals as goal
+use Rattle.variation.proofs.compact_worst_bin_for_repair.Goals.{After-worst_bin_index-index}
 
--- a sheet's index is below the count of the boards
-index_known : (stock cuts : List ℕ) (n : Instance) (c : Words) (t : Tables stock cuts n) (s : Stands (instance_in stock cuts n) [] c) (k : ℕ)
-    → IsWorst (candidate_in (instance_in stock cuts n) c).bins k → (k < n.stock) × (n.stock ≤ 64)
-index_known stock cuts n c t s k w = (omega (arith, w.0, bin_count stock cuts n c t s, few_sheets stock cuts n [] c t s), t.few_boards)
+-- the index of the least fit sheet
+worst : (c : After-worst_bin_index-index) → IsWorst (candidate_in c.args.inst.now c.args.c.now).bins c.worst_bin_index-index.result
+worst c = c.worst_bin_index-index.ensures (candidate_in c.args.inst.now c.args.c.now).bins (c.as_slice.ensures.value ∙ c.sheet_areas-areas.ensures)
 
-pub returns-then-sheets-lt2 : goal.returns-then-sheets-lt2
-returns-then-sheets-lt2 c = compacted_one (instance_in c.args.stock.now c.args.cuts.now c.args.inst) c.args.c c.requires.0.ranged c.requires.1 c.if-sheets-lt2.true
+known : (c : After-worst_bin_index-index) → (c.worst_bin_index-index.result < length c.stock-stock.result.now) × (length c.stock-stock.result.now ≤ 64)
+known c =
+    let count : length c.stock-stock.result.now ≡ length c.args.inst.now.stock = ap length c.stock-stock.ensures.value in (
+      omega (arith, count, index_known c.args.inst.now c.args.c.now c.requires c.worst_bin_index-index.result (worst c).0),
+      omega (arith, count, c.stock-stock.ensures.sound.ranged.few_boards),
+    )
+
+pub returns-then-c-lt2 : goal.returns-then-c-lt2
+returns-then-c-lt2 c = compacted_one c.args.inst.now c.args.c.now c.requires c.if-c-lt2.true
+
+pub worst_bin_index-index-requires : goal.worst_bin_index-index-requires
+worst_bin_index-index-requires c = omega (arith, c.if-c-lt2.false, areas_count c.args.inst.now c.args.c.now c.requires _ (c.as_slice.ensures.value ∙ c.sheet_areas-areas.ensures))
 
 pub bounds-c-index : goal.bounds-c-index
-bounds-c-index c =
-    let room : length c.args.c.boards ≡ 64 = search rules in
-    omega (arith, index_known c.args.stock.now c.args.cuts.now c.args.inst c.args.c c.requires.0 c.requires.1 c.worst_bin_index-index.result (c.worst_bin_index-index.ensures (candidate_in (instance_in c.args.stock.now c.args.cuts.now c.args.inst) c.args.c).bins (first_areas c.args.stock.now c.args.cuts.now c.args.inst c.args.c c.requires.0 c.requires.1 c.sheet_areas-areas.result c.sheet_areas-areas.ensures)))
+bounds-c-index c = omega (arith, known (goal.at.bounds-c-index c).After-worst_bin_index-index)
 
 pub offset_bounds-c-index : goal.offset_bounds-c-index
-offset_bounds-c-index c = omega (arith, index_known c.args.stock.now c.args.cuts.now c.args.inst c.args.c c.requires.0 c.requires.1 c.worst_bin_index-index.result (c.worst_bin_index-index.ensures (candidate_in (instance_in c.args.stock.now c.args.cuts.now c.args.inst) c.args.c).bins (first_areas c.args.stock.now c.args.cuts.now c.args.inst c.args.c c.requires.0 c.requires.1 c.sheet_areas-areas.result c.sheet_areas-areas.ensures)))
+offset_bounds-c-index c = omega (arith, known (goal.at.offset_bounds-c-index c).After-worst_bin_index-index)
 
-pub return_stock-after-requires : goal.return_stock-after-requires
-return_stock-after-requires c = index_known c.args.stock.now c.args.cuts.now c.args.inst c.args.c c.requires.0 c.requires.1 c.worst_bin_index-index.result (c.worst_bin_index-index.ensures (candidate_in (instance_in c.args.stock.now c.args.cuts.now c.args.inst) c.args.c).bins (first_areas c.args.stock.now c.args.cuts.now c.args.inst c.args.c c.requires.0 c.requires.1 c.sheet_areas-areas.result c.sheet_areas-areas.ensures))
+pub take_apart-requires : goal.take_apart-requires
+take_apart-requires c = omega (arith, c.requires.counts, c.stock-stock.ensures.sound.ranged.few_panels)
+
+pub return_stock-requires : goal.return_stock-requires
+return_stock-requires c = known (goal.at.return_stock-requires c).After-worst_bin_index-index
+
+pub overflow_sub-c : goal.overflow_sub-c
+unfolding apart
+overflow_sub-c c = omega (arith, ap (λ (k : Words). k.sheets) c.take_apart.ensures)
 
 pub returns : goal.returns
 returns c =
-    let count : c.args.inst.stock ≡ length (instance_in c.args.stock.now c.args.cuts.now c.args.inst).stock = sym (stock_count c.args.stock.now c.args.cuts.now c.args.inst) in
-    compacted_words (instance_in c.args.stock.now c.args.cuts.now c.args.inst) c.requires.0.admitted c.requires.0.ranged c.args.c c.requires.1 c.worst_bin_index-index.result
-    (c.worst_bin_index-index.ensures (candidate_in (instance_in c.args.stock.now c.args.cuts.now c.args.inst) c.args.c).bins (first_areas c.args.stock.now c.args.cuts.now c.args.inst c.args.c c.requires.0 c.requires.1 c.sheet_areas-areas.result c.sheet_areas-areas.ensures))
-    (omega arith) c.take_apart-after.result c.take_apart-after.ensures
-    c.return_stock-after.result (c.return_stock-after.ensures ∙ ap (λ (n : ℕ). put_back c.args.c.boards n c.worst_bin_index-index.result) count)
+    let count = ap length c.stock-stock.ensures.value in
+    compacted_by c.args.inst.now c.stock-stock.ensures.sound.admitted c.stock-stock.ensures.sound.ranged c.args.c.now c.requires c.worst_bin_index-index.result
+    (worst (goal.at.returns c).After-worst_bin_index-index) c.if-c-lt2.false c.take_apart.new.c c.take_apart.ensures
+    c.return_stock.new.boards (c.return_stock.ensures ∙ ap (λ (n : ℕ). put_back c.take_apart.new.c.boards n c.worst_bin_index-index.result) count)

@@ -1,20 +1,21 @@
 -- `variation::crossover_child_from_donor_bin` meets its contract.
-use mathlib.Core.Path.{refl}
-use Rattle.model.specs.Expand.{ProblemInstance}
-use Rattle.candidate.specs.Stands.{instance_in, candidate_in}
-use Rattle.evaluation.proofs.Scored.{first_areas}
+use native.Mathlib.Omega.{arith}
+use mathlib.Core.Path.{◌∙◌}
+use Rattle.candidate.specs.Stands.{candidate_in}
 use Rattle.variation.proofs.Crossed.{no_donor}
-use Rattle.variation.proofs.Answers.{no_bins}
+use Rattle.variation.proofs.Sheets.{areas_count, no_bins}
 use Rattle.variation.proofs.crossover_child_from_donor_bin.Goals as goal
 
-pub returns-then-sheets-eq0 : goal.returns-then-sheets-eq0
-returns-then-sheets-eq0 c =
-    let inst : ProblemInstance = instance_in c.args.stock.now c.args.cuts.now c.args.inst in
-    let left = candidate_in inst c.args.left in
-    let right = candidate_in inst c.args.right in
-    (no_donor inst c.args.h left right (no_bins inst c.args.right c.if-sheets-eq0.true), refl)
+pub returns-then-right-eq0 : goal.returns-then-right-eq0
+returns-then-right-eq0 c =
+    no_donor c.args.inst.now c.args.h (candidate_in c.args.inst.now c.args.left.now) (candidate_in c.args.inst.now c.args.right.now) (no_bins c.args.inst.now c.args.right.now c.if-right-eq0.true)
+
+pub best_donor_bin_index-index-requires : goal.best_donor_bin_index-index-requires
+best_donor_bin_index-index-requires c = omega (arith, c.if-right-eq0.false, areas_count c.args.inst.now c.args.right.now c.requires.1 _ (c.as_slice.ensures.value ∙ c.sheet_areas-areas.ensures))
 
 pub child_of_sheet-requires : goal.child_of_sheet-requires
-child_of_sheet-requires c =
-    let inst : ProblemInstance = instance_in c.args.stock.now c.args.cuts.now c.args.inst in
-    (c.requires.0, c.requires.1, c.requires.2, c.best_donor_bin_index-index.ensures (candidate_in inst c.args.right).bins (first_areas c.args.stock.now c.args.cuts.now c.args.inst c.args.right c.requires.0 c.requires.2 c.sheet_areas-areas.result c.sheet_areas-areas.ensures), c.requires.3)
+child_of_sheet-requires c = (
+  c.requires.0,
+  c.requires.1,
+  c.best_donor_bin_index-index.ensures (candidate_in c.args.inst.now c.args.right.now).bins (c.as_slice.ensures.value ∙ c.sheet_areas-areas.ensures),
+)

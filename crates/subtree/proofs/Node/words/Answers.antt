@@ -9,7 +9,7 @@ use Rattle.model.specs.declared.Rect.{Rect}
 use Rattle.model.specs.contracts.Direction.{the_type}
 use Rattle.model.specs.Types.{direction_code}
 use Rattle.model.specs.Plan.{node_words}
-use Rattle.subtree.specs.Words.{words_of}
+use Rattle.subtree.specs.Nodes.{words_of}
 use Rattle.subtree.proofs.Node.words.Goals as goal
 
 code_is : (o : Direction) → tag_of the_type o ≡ direction_code o

@@ -1,0 +1,2 @@
+-- The definitions that the contracts of a problem cite.
+pub mod Problem
