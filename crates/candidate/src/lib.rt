@@ -74,7 +74,8 @@ fn heuristic_of(code: u32) -> BaselineGuillotineHeuristic
     }
 }
 
-// Places are below 64 by a clause: a type of places would be unwrapped in each word.
+// Places are below 64 by a clause: a type of places would be unwrapped in each word. Cut and heuristic are apart as in
+// `guillotine`.
 fn insertion_word(board: u32, cut: u32, h: BaselineGuillotineHeuristic) -> u32
     requires { (board < 64) × (cut < 64) }
     ensures { result ≡ insertion_word board cut h }

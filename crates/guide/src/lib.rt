@@ -31,7 +31,7 @@ fn replace_free_leaf<const N: usize>(guide: &mut ArrayVec<Node, N>, target: Rect
     }
 }
 
-// The guide part of try_insert: a merge voids it. The flag is the definition's: without it each caller would branch.
+// The guide part of try_insert: a merge voids it. The flag is the definition's, which takes a merge as it takes a cut.
 pub fn next_guide<const N: usize>(
     guide: &mut ArrayVec<Node, N>,
     merged: bool,

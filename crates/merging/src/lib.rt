@@ -75,7 +75,7 @@ fn merges(free: &[Rect], kerf_width: u32, fresh: usize) -> bool
 }
 
 // Merges pairs until none is left, and says whether there was one. After each merge the scan starts again from the first pair;
-// left of the merged rectangle none merges.
+// left of the merged rectangle none merges. A `while`: how many merges there are is not known before, and each changes the list that is scanned.
 #[tactic(auto, using(crate::proofs::Rounds::left_within, crate::proofs::Rounds::flag_stop, crate::proofs::Rounds::merged_all))]
 pub fn merge_free_rects(free: &mut FreeRects, kerf_width: u32, mut fresh: usize) -> bool
     requires { Scannable kerf_width free.old fresh }

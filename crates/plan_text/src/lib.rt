@@ -35,7 +35,7 @@ fn put_field<const N: usize>(number: u64, text: &mut Buffer<N>)
     text.push_decimal(number);
 }
 
-// As many words from one on.
+// As many words from one on. No slice: a plan's words may count more than they hold.
 fn put_fields<const N: usize>(words: &[u32], from: usize, many: usize, text: &mut Buffer<N>)
     requires { from + many < 2 ^ 41 }
     ensures { text.new ≡ with_bytes N text.old (concat_map (field_at words.now from) (range many)) }

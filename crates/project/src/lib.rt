@@ -101,7 +101,7 @@ pub fn record_count(body: &[u8]) -> usize
     body.len() / RECORD_LENGTH
 }
 
-// Record i of a body.
+// Record i of a body, by its number as in the definition: checks and instances count records.
 pub fn record_at(body: &[u8], i: usize) -> RawPiece
     requires { record_length * i + record_length ≤ length body.now }
     ensures { piece_of result ≡ record_at body.now i }

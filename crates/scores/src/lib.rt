@@ -18,7 +18,7 @@ pub struct CandidateScore {
     pub fitness: Option<f64>,
 }
 
-// partial_cmp, with Equal where there is none; no fitness is less than any.
+// partial_cmp, with Equal where there is none, as in the source: floats have no `Ord`. No fitness is less than any.
 #[tactic(auto, using(crate::proofs::Order::fitness_order))]
 fn compare_fitness(left: Option<f64>, right: Option<f64>) -> Ordering
     ensures { order_of result ≡ compare_fitness (option_of left) (option_of right) }
@@ -26,7 +26,7 @@ fn compare_fitness(left: Option<f64>, right: Option<f64>) -> Ordering
     left.partial_cmp(&right).unwrap_or(Ordering::Equal)
 }
 
-// Fewer sheets, less waste area, higher fitness: the better score is the greater one.
+// Fewer sheets, less waste area, higher fitness: the better score is the greater one. Two fields descend and one is a float: no derive has that.
 #[tactic(auto, unfolding(model::specs::Candidate::compare_score, crate::specs::Scores::score_of))]
 fn compare_candidate_score(left: CandidateScore, right: CandidateScore) -> Ordering
     ensures { order_of result ≡ compare_score (score_of left) (score_of right) }
