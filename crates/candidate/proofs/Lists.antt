@@ -12,12 +12,10 @@ use Rattle.lists.proofs.Counts.{count_rises}
 use Rattle.lists.proofs.Every.{all_get, pairs_each}
 use Rattle.lists.proofs.Maps.{map_same}
 use Rattle.lists.proofs.Arrays.{remove_at_split, take_remove_at}
-use Rattle.copying.specs.Inserted.{insert_at}
+use Rattle.words.specs.Inserted.{insert_at}
+use Rattle.candidate.specs.Bins.{Other}
 
 -- ---- lists without repetition
-
-abbrev pub Other : ℕ → ℕ → Type 0
-Other a b = a ≡ b → ⊥
 
 pub other_sym : (a b : ℕ) → Other a b → Other b a
 other_sym a b h = λ e. h (sym e)

@@ -17,7 +17,7 @@ use Rattle.model.specs.Sheet.{GuillotineSheet, Insertion, new_sheet, try_insert,
 use Rattle.model.specs.Expand.{ProblemInstance}
 use Rattle.candidate.specs.Entries.{board_of, on_board}
 use Rattle.candidate.specs.Stands.{insertion_in, making_in, bin_in}
-use Rattle.problem.specs.Problem.{board_in}
+use Rattle.project.specs.Problem.{board_in}
 
 -- ---- rebuilding
 

@@ -22,14 +22,15 @@ use Rattle.model.specs.Expand.{ProblemInstance}
 use Rattle.trust.proofs.Winner.{Admitted}
 use Rattle.trust.proofs.Ranges.{Ranged}
 use Rattle.trust.proofs.Proper.{place_proper}
-use Rattle.copying.specs.Inserted.{insert_at}
+use Rattle.words.specs.Inserted.{insert_at}
 use Rattle.candidate.specs.declared.Candidate.{Candidate as Words}
 use Rattle.candidate.specs.Entries.{insertion_word, board_of, cut_of}
 use Rattle.candidate.specs.Moves.{moved_up, with_insertion, with_unused, with_sheet, first_fit_in, take_place}
 use Rattle.candidate.specs.Stands.{Stands, insertion_in, making_in, bin_in, sheet_boards, available_boards, placed_words, unused_numbers, candidate_in}
-use Rattle.problem.specs.Problem.{board_in, cut_in}
+use Rattle.project.specs.Problem.{board_in, cut_in}
 use Rattle.candidate.proofs.Codes.{board_back, cut_back, row_back}
-use Rattle.candidate.proofs.Lists.{Other, other_sym, map_set, map_else, moved_front, moved_parts, moved_perm, length_moved}
+use Rattle.candidate.proofs.Lists.{other_sym, map_set, map_else, moved_front, moved_parts, moved_perm, length_moved}
+use Rattle.candidate.specs.Bins.{Other}
 use Rattle.candidate.proofs.Ends.{end_unused, end_sheet, end_new}
 use Rattle.candidate.proofs.FirstFit.{Refuses, TakenAt, Found, taken, refused, first_fit_lem, taken_inside, taken_get, taken_before, taken_behind, in_bins_lem, no_bin_lem, on_stock, no_stock_lem}
 use Rattle.candidate.proofs.Makings.{making_other, bin_other, rebuilt_bin, rebuilt_same}

@@ -11,7 +11,7 @@ use Rattle.trust.proofs.Candidate.{placed_cuts}
 use Rattle.candidate.specs.declared.Candidate.{Candidate as Words}
 use Rattle.candidate.specs.Moves.{without_unused}
 use Rattle.candidate.specs.Stands.{Stands, unused_numbers, candidate_in}
-use Rattle.problem.specs.Problem.{cut_in}
+use Rattle.project.specs.Problem.{cut_in}
 
 -- reinsert_unused_first_fit places them on the candidate without them
 pub reinsert_is : (inst : ProblemInstance) (h : BaselineGuillotineHeuristic) (k : Words)

@@ -25,8 +25,9 @@ use Rattle.trust.proofs.Ranges.{Ranged}
 use Rattle.candidate.specs.declared.Candidate.{Candidate as Words}
 use Rattle.candidate.specs.Entries.{board_of, on_board}
 use Rattle.candidate.specs.Stands.{Stands, making_in, bin_in, sheet_boards, available_boards, placed_words, unused_numbers, candidate_in}
-use Rattle.problem.specs.Problem.{board_in, cut_in}
-use Rattle.candidate.proofs.Lists.{Other, perm_once}
+use Rattle.project.specs.Problem.{board_in, cut_in}
+use Rattle.candidate.proofs.Lists.{perm_once}
+use Rattle.candidate.specs.Bins.{Other}
 use Rattle.candidate.proofs.Makings.{on_none, bare_rebuilt, bin_bare}
 
 -- the sheet on a board is the one that its making builds

@@ -16,7 +16,7 @@ use Rattle.trust.proofs.Ranges.{Ranged}
 use Rattle.trust.proofs.Proper.{start_proper}
 use Rattle.candidate.specs.Moves.{new_words}
 use Rattle.candidate.specs.Stands.{Stands, candidate_in}
-use Rattle.problem.specs.Problem.{board_in, cut_in}
+use Rattle.project.specs.Problem.{board_in, cut_in}
 
 module _ (inst : ProblemInstance) (r : Ranged inst) where
   boards_first : take (length inst.stock) new_words.boards ≡ range (length inst.stock)

@@ -4,11 +4,11 @@ use Rattle.lists.specs.Base.{is_some, range, remove_at}
 use Rattle.model.specs.declared.BaselineGuillotineHeuristic.{BaselineGuillotineHeuristic}
 use Rattle.model.specs.Sheet.{GuillotineSheet, Insertion, try_insert}
 use Rattle.model.specs.Expand.{ProblemInstance}
-use Rattle.copying.specs.Inserted.{insert_at}
+use Rattle.words.specs.Inserted.{insert_at}
 use Rattle.candidate.specs.declared.Candidate.{Candidate as Words}
 use Rattle.candidate.specs.Entries.{insertion_word}
 use Rattle.candidate.specs.Stands.{bin_in, placed_words}
-use Rattle.problem.specs.Problem.{cut_in}
+use Rattle.project.specs.Problem.{cut_in}
 
 -- Candidate::new: every board available, nothing placed
 unfoldable pub new_words : Words

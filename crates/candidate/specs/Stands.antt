@@ -9,7 +9,7 @@ use Rattle.model.specs.Sheet.{GuillotineSheet, Insertion, new_sheet, rebuild}
 use Rattle.model.specs.Candidate.{Candidate}
 use Rattle.model.specs.Expand.{ProblemInstance}
 use Rattle.trust.proofs.Proper.{UnderWay}
-use Rattle.problem.specs.Problem.{board_in, cut_in}
+use Rattle.project.specs.Problem.{board_in, cut_in}
 use Rattle.candidate.specs.declared.Candidate.{Candidate as Words}
 use Rattle.candidate.specs.Entries.{board_of, cut_of, row_of, on_board}
 

@@ -7,10 +7,17 @@ ghost use Rattle.candidate.specs.Entries.{heuristic_code, choice_of, split_of, r
 ghost use Rattle.candidate.specs.Moves.{new_words, moved_up, with_insertion, with_unused, take_place};
 ghost use Rattle.candidate.specs.Stands.{placed_words, unused_numbers};
 
+pub mod fitness; // Fitness in f64, each quotient, product and sum rounded once, in sheet order
+pub mod scores; // The order of two fitnesses and of two scores
+pub mod placing; // Cuts placed on the sheets of a candidate
+pub mod evaluation; // What a candidate is worth
+pub mod variation; // What the search makes of candidates
+
 use arrayvec::ArrayVec;
 use model::{
     BaselineGuillotineHeuristic, GuillotineRectChoice, GuillotineSplitHeuristic, RotationPreference,
 };
+use words::copying;
 
 // All 64 are numbers of boards, of which the problem's come first: `sheets` divides those of the sheets from the available ones. That a candidate stands is a fact of it and
 // its problem together, so it is a clause of what needs it.

@@ -2,13 +2,13 @@
 // past that is read.
 #![tactic(auto)]
 
-use append::Buffer;
 use std::io;
+use words::append::Buffer;
 
 fn main(rt: HostRuntime) -> io::Result<()> {
     let mut file = [0u8; 3105];
     let size = reading::read_full(&mut rt.stdin(), &mut file)?;
     let mut text = Buffer::<65_536>::new();
-    answer_text::put_answer(&file[..size], &mut text);
+    text::put_answer(&file[..size], &mut text);
     rt.write_all(text.as_slice())
 }

@@ -14,8 +14,8 @@ use Rattle.model.specs.declared.StockInstance.{StockInstance}
 use Rattle.model.specs.declared.FitResult.{FitResult}
 use Rattle.model.specs.Types.{stock_rect}
 use Rattle.model.specs.Fit.{pattern_matches, rotate_pattern, turning_matters, upright_test, rotated_test, upright_fit, rotated_fit, upright_result, rotated_result, fit_cut_in_rects, cut_fits_stock}
-use Rattle.patterns.specs.declared.Ways.{Ways}
-use Rattle.patterns.specs.Orientation.{ways_to_lie}
+use Rattle.fits.specs.declared.patterns.Ways.{Ways}
+use Rattle.fits.specs.Orientation.{ways_to_lie}
 use Rattle.fits.specs.FitList.{if_lies}
 use Rattle.fits.specs.ByWays.{lies_upright, lies_rotated, lies_any_way, fits_by_ways}
 

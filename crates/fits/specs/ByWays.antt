@@ -6,7 +6,7 @@ use Rattle.model.specs.declared.Rect.{Rect}
 use Rattle.model.specs.declared.CutInstance.{CutInstance}
 use Rattle.model.specs.declared.FitResult.{FitResult}
 use Rattle.model.specs.Fit.{upright_result, rotated_result}
-use Rattle.patterns.specs.declared.Ways.{Ways}
+use Rattle.fits.specs.declared.patterns.Ways.{Ways}
 use Rattle.fits.specs.FitList.{if_lies}
 
 -- the two tests that read the free rectangle, for a cut of that width and length

@@ -6,6 +6,9 @@ ghost use Rattle.model.specs.Fit.{upright_result, rotated_result, fit_cut_in_rec
 ghost use Rattle.fits.specs.FitList.{fits_of};
 ghost use Rattle.fits.specs.ByWays.{lies_any_way, fits_by_ways};
 
+pub mod patterns; // Patterns of cuts and boards, and the ways to lie that they leave open
+pub mod choice; // How well a piece lies in a free rectangle, and in which direction the rest is split
+
 use model::{CutInstance, FitResult, PatternDirection, Rect, RotationPreference, StockInstance};
 use patterns::Ways;
 

@@ -4,6 +4,8 @@
 ghost use Rattle.std.specs.Prelude.{◌≡◌, ℕ, ◌<◌};
 ghost use Rattle.model.specs.TinyPrng.{next_state, value_of, index_of};
 
+pub mod shuffle; // The shuffle of a cut order
+
 use std::marker::Model;
 
 // ---- by value

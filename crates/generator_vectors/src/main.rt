@@ -2,7 +2,7 @@
 // the seeds 0 and 1.
 #![tactic(auto)]
 
-use generator::TinyPrng;
+use generator::{TinyPrng, shuffle};
 use std::io;
 
 fn write_outputs(rt: &impl Print, seed: u64, count: usize) -> io::Result<()> {

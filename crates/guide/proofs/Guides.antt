@@ -17,13 +17,13 @@ use Rattle.model.specs.declared.Rect.{Rect}
 use Rattle.model.specs.declared.Direction.{Direction}
 use Rattle.model.specs.declared.CutInstance.{CutInstance}
 use Rattle.model.specs.Guide.{SliceNode, leaf, free, insert_subtree, replace_free_leaf}
-use Rattle.subtree.specs.declared.Node.{Node}
-use Rattle.subtree.specs.declared.CutOff.{CutOff}
-use Rattle.subtree.specs.declared.Subtree.{Subtree}
-use Rattle.subtree.specs.Nodes.{around, subtree_nodes, guide_nodes, tree_nodes}
-use Rattle.subtree.proofs.Trees.{guide_nodes_some, guide_nodes_none, tree_nodes_leaf}
-use Rattle.free_leaf.specs.Leaves.{is_free_leaf, size, Finds}
-use Rattle.splice.specs.Splices.{spliced}
+use Rattle.guide.specs.declared.subtree.Node.{Node}
+use Rattle.guide.specs.declared.subtree.CutOff.{CutOff}
+use Rattle.guide.specs.declared.subtree.Subtree.{Subtree}
+use Rattle.guide.specs.Nodes.{around, subtree_nodes, guide_nodes, tree_nodes}
+use Rattle.guide.proofs.subtree.Trees.{guide_nodes_some, guide_nodes_none, tree_nodes_leaf}
+use Rattle.guide.specs.Leaves.{is_free_leaf, size, Finds}
+use Rattle.guide.specs.Splices.{spliced}
 use Rattle.guide.specs.Guides.{Becomes, Replaces, split_guide, next_guide}
 use Rattle.guide.proofs.Outcomes.{Spliced, first_of, outcome}
 

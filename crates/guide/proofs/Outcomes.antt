@@ -15,11 +15,11 @@ use Rattle.model.specs.Types.{same_rect}
 use Rattle.model.specs.Guide.{GuideCut, SliceNode, cut, leaf, free, cut_piece, replace_free_leaf}
 use Rattle.model.specs.Plan.{preorder}
 use Rattle.trust.proofs.Guide.{same_rect_eq}
-use Rattle.subtree.specs.declared.Node.{Node}
-use Rattle.subtree.specs.Nodes.{node_of, tree_nodes}
-use Rattle.subtree.proofs.Trees.{tree_nodes_cut, tree_nodes_leaf}
-use Rattle.free_leaf.specs.Leaves.{is_free_leaf, size}
-use Rattle.free_leaf.proofs.Sizes.{size_cut, size_leaf}
+use Rattle.guide.specs.declared.subtree.Node.{Node}
+use Rattle.guide.specs.Nodes.{node_of, tree_nodes}
+use Rattle.guide.proofs.subtree.Trees.{tree_nodes_cut, tree_nodes_leaf}
+use Rattle.guide.specs.Leaves.{is_free_leaf, size}
+use Rattle.guide.proofs.free_leaf.Sizes.{size_cut, size_leaf}
 
 -- ---- the first place in two lists
 

@@ -14,8 +14,8 @@ use Rattle.trust.proofs.Placing.{Good}
 use Rattle.trust.proofs.RectLayout.{layout_perm}
 use Rattle.trust.proofs.Sheet.{Sound, chosen_first, lies_positive}
 use Rattle.trust.proofs.Sizes.{NodeCount}
-use Rattle.subtree.specs.declared.Node.{Node}
-use Rattle.subtree.specs.Nodes.{node_of, guide_nodes, InCorner}
+use Rattle.guide.specs.declared.subtree.Node.{Node}
+use Rattle.guide.specs.Nodes.{node_of, guide_nodes, InCorner}
 use Rattle.guide.specs.Guides.{split_guide, next_guide}
 
 -- ---- the definition's steps

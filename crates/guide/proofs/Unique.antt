@@ -4,9 +4,9 @@ use mathlib.Core.List.{List, [], ◌∷◌, ◌++◌, append_assoc, append-nil}
 use mathlib.Core.Option.{Option, none, some}
 use Rattle.model.specs.declared.Rect.{Rect}
 use Rattle.model.specs.Guide.{GuideCut, LeafKind, SliceNode, cut, leaf, free, cut_piece}
-use Rattle.subtree.specs.declared.Node.{Node}
-use Rattle.subtree.specs.Nodes.{node_of, tree_nodes, guide_nodes}
-use Rattle.subtree.proofs.Trees.{tree_nodes_cut, tree_nodes_leaf, guide_nodes_some, guide_nodes_none}
+use Rattle.guide.specs.declared.subtree.Node.{Node}
+use Rattle.guide.specs.Nodes.{node_of, tree_nodes, guide_nodes}
+use Rattle.guide.proofs.subtree.Trees.{tree_nodes_cut, tree_nodes_leaf, guide_nodes_some, guide_nodes_none}
 
 -- ---- what a node says
 

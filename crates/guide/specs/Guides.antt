@@ -6,9 +6,9 @@ use Rattle.model.specs.declared.Rect.{Rect}
 use Rattle.model.specs.declared.Direction.{Direction}
 use Rattle.model.specs.declared.CutInstance.{CutInstance}
 use Rattle.model.specs.Guide.{SliceNode, insert_subtree, replace_free_leaf}
-use Rattle.subtree.specs.declared.Node.{Node}
-use Rattle.subtree.specs.declared.Subtree.{Subtree}
-use Rattle.subtree.specs.Nodes.{subtree_nodes, guide_nodes, tree_nodes}
+use Rattle.guide.specs.declared.subtree.Node.{Node}
+use Rattle.guide.specs.declared.subtree.Subtree.{Subtree}
+use Rattle.guide.specs.Nodes.{subtree_nodes, guide_nodes, tree_nodes}
 
 -- the guide before merging, as in try_insert
 unfoldable pub split_guide : Direction → ℕ → Rect → Rect → CutInstance → Option SliceNode → Option SliceNode

@@ -4,8 +4,13 @@
 ghost use Rattle.std.specs.Prelude.{◌≡◌, ◌+◌, ◌≤◌, ◌<◌, length};
 ghost use Rattle.std.proofs.Math.Option.{some};
 ghost use Rattle.model.specs.Guide.{leaf, free};
-ghost use Rattle.subtree.specs.Nodes.{subtree_nodes, guide_nodes, InCorner};
+ghost use Rattle.guide.specs.Nodes.{subtree_nodes, guide_nodes, InCorner};
 ghost use Rattle.guide.specs.Guides.{Becomes, Replaces, next_guide};
+
+pub mod subtree; // The nodes of a cutting guide, and the subtree that an insertion puts in the place of a free leaf
+mod free_leaf; // The search for a free leaf among the nodes of a guide, which are in preorder
+mod splice; // A subtree's nodes in the place of a guide's node
+pub mod saw; // A sheet's saw and use
 
 use arrayvec::ArrayVec;
 use model::{CutInstance, Direction, Rect};

@@ -10,8 +10,8 @@ use Rattle.model.specs.Project.{project_of}
 use Rattle.model.specs.Expand.{ProblemInstance, expand_project}
 use Rattle.trust.proofs.Checks.{admitted}
 use Rattle.trust.proofs.Ranges.{Byte, ranged}
-use Rattle.problem.specs.Problem.{Sound}
-use Rattle.refusals.specs.Checks.{Checked}
+use Rattle.project.specs.Problem.{Sound}
+use Rattle.project.specs.Checks.{Checked}
 
 -- the bytes of a file
 all_bytes : (l : List ℕ) → ((i : ℕ) → get_or l i 0 < 256) → All Byte l

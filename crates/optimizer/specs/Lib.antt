@@ -1,2 +1,2 @@
--- What the entry promises.
+-- optimizer
 pub mod Promise

@@ -11,11 +11,14 @@ ghost use Rattle.model.specs.Answer.{prefilter};
 ghost use Rattle.model.specs.Outcome.{least_workspace, least_plan, too_small, cleared};
 ghost use Rattle.optimizer.specs.Promise.{number_of, Searches, Promise};
 
-use free_rects::FreeRects;
+mod prefilter; // What is tested before the search
+
 use model::{CutInstance, OptimizerEffort};
-use problem::ProblemInstance;
-use project::Refusal;
-use refusals::CheckedFile;
+use project::problem::ProblemInstance;
+use project::refusals::CheckedFile;
+use project::{Refusal, instances, refusals};
+use search::seeds;
+use sheet::free_rects::FreeRects;
 
 // The least lent memory, in words. C lends both as slices of any length, beside each other and beside the file, so that they are long enough is a
 // clause of what is behind the test.

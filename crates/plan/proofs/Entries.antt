@@ -14,11 +14,11 @@ use Rattle.lists.proofs.Parts.{length_patch, patch_nil, patch_append}
 use Rattle.trust.proofs.RoundTrip.{contents_length, contents_append}
 use Rattle.model.specs.Sheet.{GuillotineSheet}
 use Rattle.model.specs.Plan.{sheet_words, contents_from}
-use Rattle.fitness.specs.declared.SheetAreas.{SheetAreas}
-use Rattle.fitness.specs.Areas.{areas_of}
-use Rattle.sheet_plan.specs.declared.Body.{Body}
-use Rattle.sheet_plan.specs.Replaying.{WritesSheet}
-use Rattle.sheet_plan.proofs.Parts.{patch_behind}
+use Rattle.candidate.specs.declared.fitness.SheetAreas.{SheetAreas}
+use Rattle.candidate.specs.Areas.{areas_of}
+use Rattle.plan.specs.declared.sheet_plan.Body.{Body}
+use Rattle.plan.specs.Replaying.{WritesSheet}
+use Rattle.plan.proofs.sheet_plan.Parts.{patch_behind}
 use Rattle.plan.specs.Sheets.{bodies_of, WritesFrom}
 use Rattle.plan.proofs.Swaps.{patch_swap}
 

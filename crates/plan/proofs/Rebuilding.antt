@@ -19,13 +19,13 @@ use Rattle.trust.proofs.Bounded.{placed_most}
 use Rattle.trust.proofs.CandidateSize.{candidate_counts}
 use Rattle.trust.proofs.Proper.{SheetProper}
 use Rattle.trust.proofs.PlanSize.{counted, plan_most}
-use Rattle.fitness.specs.Areas.{areas_of, board_areas, Inside}
-use Rattle.fitness.proofs.Sheets.{board_area, inside_areas, used_stock_area_areas}
+use Rattle.candidate.specs.Areas.{areas_of, board_areas, Inside}
+use Rattle.candidate.proofs.fitness.Sheets.{board_area, inside_areas, used_stock_area_areas}
 use Rattle.candidate.specs.declared.Candidate.{Candidate as Words}
 use Rattle.candidate.specs.Entries.{cut_of}
 use Rattle.candidate.specs.Stands.{Stands, bin_in, sheet_boards, placed_words, unused_numbers, candidate_in}
 use Rattle.candidate.proofs.Standing.{boards_below, length_all_boards, length_sheets, few_placed, RebuiltOn}
-use Rattle.sheet_plan.specs.Replaying.{Rebuildable}
+use Rattle.plan.specs.Replaying.{Rebuildable}
 
 module _ (inst : ProblemInstance) (r : Ranged inst) (k : Words) (st : Stands inst [] k) where
   abbrev bins : List GuillotineSheet

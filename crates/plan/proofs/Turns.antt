@@ -20,13 +20,13 @@ use Rattle.model.specs.Expand.{ProblemInstance}
 use Rattle.model.specs.Plan.{sheet_words}
 use Rattle.trust.proofs.Ranges.{Ranged}
 use Rattle.trust.proofs.PlanSize.{body_words, plan_length}
-use Rattle.fitness.specs.declared.SheetAreas.{SheetAreas}
-use Rattle.fitness.specs.Areas.{board_areas, fitness_of, Inside}
+use Rattle.candidate.specs.declared.fitness.SheetAreas.{SheetAreas}
+use Rattle.candidate.specs.Areas.{board_areas, fitness_of, Inside}
 use Rattle.candidate.specs.declared.Candidate.{Candidate as Words}
 use Rattle.candidate.specs.Stands.{Stands, bin_in, sheet_boards, placed_words, candidate_in}
 use Rattle.candidate.proofs.Standing.{length_sheets}
-use Rattle.sheet_plan.specs.declared.Body.{Body}
-use Rattle.sheet_plan.specs.Replaying.{WritesSheet}
+use Rattle.plan.specs.declared.sheet_plan.Body.{Body}
+use Rattle.plan.specs.Replaying.{WritesSheet}
 use Rattle.plan.specs.declared.Bodies.{Bodies}
 use Rattle.plan.specs.Sheets.{Plans, candidate_plan, bodies_of, WritesFrom, WritesSheets}
 use Rattle.plan.proofs.Rebuilding.{bins_length, plan_fits, inside, areas_most}

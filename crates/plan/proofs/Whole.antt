@@ -17,9 +17,9 @@ use Rattle.model.specs.Fitness.{fitness, positive_zero, one}
 use Rattle.model.specs.Plan.{sheet_words, contents_from, plan_words}
 use Rattle.trust.proofs.PlanSize.{body_words, plan_length}
 use Rattle.trust.proofs.RoundTrip.{contents_length}
-use Rattle.fitness.specs.declared.SheetAreas.{SheetAreas}
-use Rattle.fitness.specs.Areas.{fitness_of}
-use Rattle.fitness.proofs.Sheets.{fitness_areas}
+use Rattle.candidate.specs.declared.fitness.SheetAreas.{SheetAreas}
+use Rattle.candidate.specs.Areas.{fitness_of}
+use Rattle.candidate.proofs.fitness.Sheets.{fitness_areas}
 use Rattle.plan.specs.Sheets.{Plans, bodies_of, WritesFrom}
 use Rattle.plan.proofs.Swaps.{patch_first}
 

@@ -1,1 +1,6 @@
+-- plan
 pub mod Sheets
+-- plan_words
+pub mod Rows
+-- sheet_plan
+pub mod Replaying

@@ -8,8 +8,8 @@ use Rattle.model.specs.Sheet.{GuillotineSheet}
 use Rattle.model.specs.Fitness.{fitness, positive_zero}
 use Rattle.model.specs.Candidate.{Candidate}
 use Rattle.model.specs.Plan.{sheet_words, contents_from, plan_words}
-use Rattle.fitness.specs.declared.SheetAreas.{SheetAreas}
-use Rattle.fitness.specs.Areas.{areas_of}
+use Rattle.candidate.specs.declared.fitness.SheetAreas.{SheetAreas}
+use Rattle.candidate.specs.Areas.{areas_of}
 use Rattle.plan.specs.declared.Bodies.{Bodies}
 
 -- a plan's words first, the words behind them as found; the count of the plan's

@@ -4,17 +4,21 @@
 ghost use Rattle.std.specs.Prelude.{◌≡◌, [], ◌≤◌, length, option_map, unwrap_or};
 ghost use Rattle.model.specs.Fitness.{one};
 ghost use Rattle.model.specs.Plan.{plan_words, sheet_part};
-ghost use Rattle.problem.specs.Problem.{Sound};
+ghost use Rattle.project.specs.Problem.{Sound};
 ghost use Rattle.candidate.specs.Stands.{Stands, candidate_in};
 ghost use Rattle.plan.specs.Sheets.{Plans, candidate_plan, WritesSheets};
 
+mod plan_words; // The words of a plan
+mod sheet_plan; // One sheet's part of the plan
+
 use arrayvec::ArrayVec;
-use candidate::Candidate;
-use fitness::SheetAreas;
-use free_rects::FreeRects;
+use candidate::fitness::SheetAreas;
+use candidate::{Candidate, fitness};
+use guide::subtree::Guide;
 use model::LayoutKind;
-use problem::ProblemInstance;
-use subtree::Guide;
+use project::problem::ProblemInstance;
+use sheet::free_rects::FreeRects;
+use words::{copying, numbers};
 
 // ---- writing
 

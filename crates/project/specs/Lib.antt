@@ -1,3 +1,11 @@
--- The definitions that the contracts of the project file cite.
+-- project
 pub mod Records
 pub mod Refusals
+-- refusals
+pub mod Checks
+-- problem
+pub mod Problem
+-- orders
+pub mod Order
+-- instances
+pub mod Instances

@@ -9,8 +9,14 @@ ghost use Rattle.model.specs.Refusal.{total_quantity};
 ghost use Rattle.project.specs.Refusals.{refusal_number};
 ghost use Rattle.project.specs.Records.{piece_of, record_at, records};
 
+pub mod refusals; // The checks that refuse a project file, in the order of the refusals' numbers, 2 to 14
+pub mod problem; // The problem of a search
+pub mod orders; // The order of first fit of boards and of cuts
+pub mod instances; // The instances of a project
+
 use model::{LayoutKind, OptimizerEffort};
 use std::marker::Model;
+use words::numbers;
 
 // Where the numbers of the contents and of the settings are, and where the stock starts.
 const SETTINGS_START_AT: usize = 0;
@@ -75,7 +81,7 @@ impl Refusal {
 
 // ---- records
 
-// What a file has; `project_line::Kind` is what a typed line names, in a crate that this one does not need. Each use matches it once, for its data.
+// What a file has; `line::Kind` is what a typed line names, in a crate that this one does not need. Each use matches it once, for its data.
 #[derive(Clone, Copy, PartialEq, Eq)]
 pub enum Kind {
     Stock,

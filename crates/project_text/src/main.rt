@@ -5,7 +5,7 @@
 use std::io;
 
 fn translate(rt: &(impl Print + Eprint), text: &[u8]) -> io::Result<()> {
-    match project_lines::parse(text) {
+    match typed::parse(text) {
         Ok(file) => rt.write_all(file.as_slice()),
         Err(bad) => eprintln!(rt; "{bad}"),
     }

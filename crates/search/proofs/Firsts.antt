@@ -23,19 +23,19 @@ use Rattle.model.specs.Search.{SearchNumbers, Seed, initial_seeds, candidate_fro
 use Rattle.trust.proofs.Keys.{cuts_for_keys_known}
 use Rattle.trust.proofs.Winner.{Admitted}
 use Rattle.trust.proofs.Ranges.{Ranged}
-use Rattle.orders.specs.declared.Head.{Head}
-use Rattle.orders.specs.Order.{head_of_cut, compare_at, sorted_order, IsOrder}
+use Rattle.project.specs.declared.orders.Head.{Head}
+use Rattle.project.specs.Order.{head_of_cut, compare_at, sorted_order, IsOrder}
 use Rattle.candidate.specs.declared.Candidate.{Candidate as Words}
 use Rattle.candidate.specs.Moves.{new_words}
 use Rattle.candidate.specs.Stands.{candidate_in}
-use Rattle.problem.specs.Problem.{no_cut, cut_in}
+use Rattle.project.specs.Problem.{no_cut, cut_in}
 use Rattle.candidate.proofs.Start.{new_is}
-use Rattle.placing.specs.Placing.{PlacesCuts}
-use Rattle.seeds.specs.declared.CandidateSeed.{CandidateSeed}
-use Rattle.seeds.specs.Seeds.{seed_in, InOrder, no_seed, IsSeed}
-use Rattle.stored.specs.Slots.{slot_words, store_in}
-use Rattle.stored.specs.Populations.{Holds, OnlySlots}
-use Rattle.stored.proofs.Populations.{only_none, population_none, standing_none}
+use Rattle.candidate.specs.Placing.{PlacesCuts}
+use Rattle.search.specs.declared.seeds.CandidateSeed.{CandidateSeed}
+use Rattle.search.specs.Seeds.{seed_in, InOrder, no_seed, IsSeed}
+use Rattle.search.specs.Slots.{slot_words, store_in}
+use Rattle.search.specs.Populations.{Holds, OnlySlots}
+use Rattle.search.proofs.stored.Populations.{only_none, population_none, standing_none}
 use Rattle.search.specs.Improved.{FromSeed}
 use Rattle.search.proofs.Passes.{pushed_holds, pushed_within}
 

@@ -17,12 +17,12 @@ use Rattle.model.specs.Search.{repair_population, compact_population}
 use Rattle.candidate.specs.declared.Candidate.{Candidate as Words}
 use Rattle.candidate.specs.Entries.{on_board}
 use Rattle.candidate.specs.Stands.{insertion_in, making_in, bin_in, sheet_boards, placed_words, candidate_in, Stands}
-use Rattle.problem.specs.Problem.{board_in}
-use Rattle.placing.specs.Bins.{ShowsBin, Shown}
-use Rattle.variation.specs.Compact.{SameSheet, Compacted}
-use Rattle.stored.specs.Slots.{slot_words, store_in}
-use Rattle.stored.specs.Populations.{words_at, StandsAt, candidate_at, population_in, AllStand, Holds, OnlySlots}
-use Rattle.stored.proofs.Populations.{slot_kept, only_wider, only_none, only_then, same_slot, stands_as, standing_at, population_none, standing_none, population_snoc, pushed_only, pushed_population, pushed_stands}
+use Rattle.project.specs.Problem.{board_in}
+use Rattle.candidate.specs.Bins.{ShowsBin, Shown}
+use Rattle.candidate.specs.Compact.{SameSheet, Compacted}
+use Rattle.search.specs.Slots.{slot_words, store_in}
+use Rattle.search.specs.Populations.{words_at, StandsAt, candidate_at, population_in, AllStand, Holds, OnlySlots}
+use Rattle.search.proofs.stored.Populations.{slot_kept, only_wider, only_none, only_then, same_slot, stands_as, standing_at, population_none, standing_none, population_snoc, pushed_only, pushed_population, pushed_stands}
 use Rattle.search.specs.Improved.{improved, Improves}
 
 -- free rectangles that show a candidate's sheets show those that a compaction leaves

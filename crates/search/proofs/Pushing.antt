@@ -16,10 +16,10 @@ use Rattle.model.specs.Expand.{ProblemInstance}
 use Rattle.model.specs.Search.{child_of, children, crossover_population}
 use Rattle.candidate.specs.declared.Candidate.{Candidate as Words}
 use Rattle.candidate.specs.Stands.{candidate_in}
-use Rattle.stored.specs.Slots.{slot_words, slot_of, store_in}
-use Rattle.stored.specs.Populations.{words_at, StandsAt, candidate_at, population_in, AllStand, Holds, OnlySlots}
-use Rattle.stored.proofs.Populations.{slot_kept, only_wider, only_none, only_then, same_slot, stands_as, standing_at, population_length, population_at, pushed_only}
-use Rattle.variation.specs.Children.{IsChild}
+use Rattle.search.specs.Slots.{slot_words, slot_of, store_in}
+use Rattle.search.specs.Populations.{words_at, StandsAt, candidate_at, population_in, AllStand, Holds, OnlySlots}
+use Rattle.search.proofs.stored.Populations.{slot_kept, only_wider, only_none, only_then, same_slot, stands_as, standing_at, population_length, population_at, pushed_only}
+use Rattle.candidate.specs.Children.{IsChild}
 use Rattle.search.proofs.Passes.{pushed_holds}
 use Rattle.search.specs.Regions.{PushesChild}
 

@@ -10,10 +10,10 @@ use Rattle.model.specs.Candidate.{Candidate}
 use Rattle.model.specs.Expand.{ProblemInstance}
 use Rattle.model.specs.Search.{SearchNumbers, default_heuristic, initial_population, crossover_population, survival_generation, generation, run_generations, select_best_valid, winner}
 use Rattle.trust.proofs.Population.{survivors_length}
-use Rattle.stored.specs.Slots.{slot_words}
-use Rattle.stored.specs.Populations.{population_in, AllStand, Holds, OnlySlots}
-use Rattle.stored.proofs.Populations.{only_then, population_length}
-use Rattle.survival.specs.Ranks.{Regions}
+use Rattle.search.specs.Slots.{slot_words}
+use Rattle.search.specs.Populations.{population_in, AllStand, Holds, OnlySlots}
+use Rattle.search.proofs.stored.Populations.{only_then, population_length}
+use Rattle.search.specs.Ranks.{Regions}
 use Rattle.search.specs.Improved.{improved}
 use Rattle.search.proofs.Passes.{passes_are}
 use Rattle.search.specs.Regions.{Region, behind_slots}

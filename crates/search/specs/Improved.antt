@@ -7,8 +7,8 @@ use Rattle.model.specs.Expand.{ProblemInstance}
 use Rattle.model.specs.Search.{candidate_from_seed}
 use Rattle.candidate.specs.declared.Candidate.{Candidate as Words}
 use Rattle.candidate.specs.Stands.{candidate_in, Stands}
-use Rattle.seeds.specs.declared.CandidateSeed.{CandidateSeed}
-use Rattle.seeds.specs.Seeds.{seed_in}
+use Rattle.search.specs.declared.seeds.CandidateSeed.{CandidateSeed}
+use Rattle.search.specs.Seeds.{seed_in}
 
 -- candidate_from_seed: every cut of the seed is in the catalogue
 pub record FromSeed (inst : ProblemInstance) (seed : CandidateSeed) (r : Words) : Type 0 where

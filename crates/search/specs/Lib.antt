@@ -1,3 +1,11 @@
--- The definitions that the contracts of the search cite.
+-- search
 pub mod Improved
 pub mod Regions
+-- stored
+pub mod Slots
+pub mod Populations
+-- seeds
+pub mod Rows
+pub mod Seeds
+-- survival
+pub mod Ranks

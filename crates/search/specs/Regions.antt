@@ -5,9 +5,9 @@ use Rattle.lists.specs.Base.{to_list}
 use Rattle.model.specs.Candidate.{Candidate}
 use Rattle.model.specs.Expand.{ProblemInstance}
 use Rattle.candidate.specs.declared.Candidate.{Candidate as Words}
-use Rattle.stored.specs.Slots.{slot_words}
-use Rattle.stored.specs.Populations.{Holds, OnlySlots}
-use Rattle.variation.specs.Children.{IsChild}
+use Rattle.search.specs.Slots.{slot_words}
+use Rattle.search.specs.Populations.{Holds, OnlySlots}
+use Rattle.candidate.specs.Children.{IsChild}
 
 -- where a population begins
 abbrev pub Region : ℕ → Type 0

@@ -7,21 +7,26 @@ ghost use Rattle.std.specs.Prelude.{◌≡◌, IfSome, [], map, ◌+◌, ◌-◌
 ghost use Rattle.lists.specs.Base.{range};
 ghost use Rattle.lists.proofs.Perm.{Perm};
 ghost use Rattle.model.specs.Search.{crossover_population, generation, winner, initial_population};
-ghost use Rattle.problem.specs.Problem.{Sound};
+ghost use Rattle.project.specs.Problem.{Sound};
 ghost use Rattle.candidate.specs.Stands.{Stands};
-ghost use Rattle.seeds.specs.Rows.{numbers_of};
-ghost use Rattle.stored.specs.Slots.{slot_words, Storable};
-ghost use Rattle.stored.specs.Populations.{AllStand, Becomes, OnlySlots, Holds};
-ghost use Rattle.placing.specs.Bins.{Shown};
-ghost use Rattle.survival.specs.Ranks.{Chosen};
+ghost use Rattle.search.specs.Rows.{numbers_of};
+ghost use Rattle.search.specs.Slots.{slot_words, Storable};
+ghost use Rattle.search.specs.Populations.{AllStand, Becomes, OnlySlots, Holds};
+ghost use Rattle.candidate.specs.Bins.{Shown};
+ghost use Rattle.search.specs.Ranks.{Chosen};
 ghost use Rattle.search.specs.Regions.{Region, behind_slots, PushesChild};
 ghost use Rattle.search.specs.Improved.{improved, FromSeed, Improves};
 
-use candidate::Candidate;
-use free_rects::FreeRects;
+mod stored; // A candidate at rest in 130 words of the workspace
+pub mod seeds; // The numbers of an effort, the rows of heuristics, and the seeds of the first population
+mod survival; // Survival and the final choice
+
+use candidate::{Candidate, placing, variation};
 use model::BaselineGuillotineHeuristic;
-use problem::ProblemInstance;
+use project::orders;
+use project::problem::ProblemInstance;
 use seeds::{CandidateSeed, SearchNumbers};
+use sheet::free_rects::FreeRects;
 use stored::Slots;
 
 // The slots of a region: 32 survivors and 16 children.

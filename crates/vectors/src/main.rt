@@ -4,8 +4,8 @@
 
 ghost use Rattle.std.specs.Prelude.{◌≡◌, ◌≤◌, ◌<◌, length};
 
-use append::Buffer;
 use std::io;
+use words::append::Buffer;
 
 // What a replay found: how many pairs there are and how many are equal, and the number of the first that differs, counted from one on.
 #[derive(Default, Drop)]
@@ -28,7 +28,7 @@ fn split_part(corpus: &[u8]) -> (&[u8], &[u8])
 
 fn is_equal(file: &[u8], text: &[u8]) -> bool {
     let mut printed = Buffer::<65_536>::new();
-    answer_text::put_answer(file, &mut printed);
+    text::put_answer(file, &mut printed);
     printed.as_slice() == text
 }
 

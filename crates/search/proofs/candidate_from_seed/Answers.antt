@@ -1,6 +1,6 @@
 -- `search::candidate_from_seed` meets its contract.
 use Rattle.candidate.proofs.Start.{new_stands}
-use Rattle.placing.proofs.Rebuilding.{new_shown}
+use Rattle.candidate.proofs.placing.Rebuilding.{new_shown}
 use Rattle.search.proofs.Firsts.{seed_made}
 use Rattle.search.proofs.candidate_from_seed.Goals as goal
 

@@ -2,7 +2,7 @@
 use Prim.Native.Nat.{ℕ, ◌+◌, ◌*◌, ◌<◌}
 use native.Mathlib.Omega.{arith}
 use mathlib.Core.Path.{◌≡◌, refl, subst}
-use Rattle.stored.specs.Populations.{StandsAt}
+use Rattle.search.specs.Populations.{StandsAt}
 use Rattle.search.proofs.Pushing.{CrossedTo, parent_stands, parent_loaded, crossed_step, crossed_all}
 use Rattle.search.proofs.crossover_population.Goals as goal
 use Rattle.search.proofs.crossover_population.Goals.{In-loop-pair}

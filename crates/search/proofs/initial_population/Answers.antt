@@ -3,10 +3,10 @@ use Prim.Native.Nat.{ℕ}
 use native.Mathlib.Omega.{arith}
 use mathlib.Core.Path.{◌≡◌, subst}
 use mathlib.Core.List.{[]}
-use Rattle.seeds.specs.Rows.{numbers_of}
-use Rattle.seeds.specs.Seeds.{IsSeed}
-use Rattle.seeds.proofs.Nth.{seeds_length}
-use Rattle.stored.specs.Populations.{Holds}
+use Rattle.search.specs.Rows.{numbers_of}
+use Rattle.search.specs.Seeds.{IsSeed}
+use Rattle.search.proofs.seeds.Nth.{seeds_length}
+use Rattle.search.specs.Populations.{Holds}
 use Rattle.search.proofs.Firsts.{firsts_all, in_order, StoredTo, stored_none, stored_step}
 use Rattle.search.proofs.initial_population.Goals as goal
 use Rattle.search.proofs.initial_population.Goals.{After-initial_candidate_seed-seed}

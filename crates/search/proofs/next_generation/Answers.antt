@@ -4,8 +4,8 @@ use native.Mathlib.Omega.{arith}
 use mathlib.Core.Path.{refl, subst}
 use mathlib.Core.List.{List}
 use Rattle.model.specs.Expand.{ProblemInstance}
-use Rattle.stored.specs.Populations.{population_in, Holds}
-use Rattle.stored.proofs.Populations.{only_wider, only_then}
+use Rattle.search.specs.Populations.{population_in, Holds}
+use Rattle.search.proofs.stored.Populations.{only_wider, only_then}
 use Rattle.search.proofs.Rounds.{region_most, generation_is}
 use Rattle.search.proofs.next_generation.Goals as goal
 

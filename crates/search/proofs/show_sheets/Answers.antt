@@ -1,6 +1,6 @@
 -- `search::show_sheets` meets its contract: the sheets of a candidate that stands are rebuilt.
 use mathlib.Core.List.{[]}
-use Rattle.placing.proofs.Rebuilding.{candidate_rebuildable, candidate_shown}
+use Rattle.candidate.proofs.placing.Rebuilding.{candidate_rebuildable, candidate_shown}
 use Rattle.search.proofs.show_sheets.Goals as goal
 
 pub rebuild-all-requires : goal.rebuild-all-requires

@@ -4,10 +4,10 @@ use mathlib.Core.Path.{◌≡◌, sym, ap, ◌∙◌, subst}
 use mathlib.Core.Option.{Option}
 use Rattle.model.specs.Candidate.{Candidate}
 use Rattle.model.specs.Search.{initial_population, run_generations}
-use Rattle.seeds.specs.Rows.{numbers_of}
-use Rattle.stored.specs.Populations.{population_in}
-use Rattle.stored.proofs.Populations.{only_wider, only_then}
-use Rattle.survival.specs.Ranks.{Chosen}
+use Rattle.search.specs.Rows.{numbers_of}
+use Rattle.search.specs.Populations.{population_in}
+use Rattle.search.proofs.stored.Populations.{only_wider, only_then}
+use Rattle.search.specs.Ranks.{Chosen}
 use Rattle.search.proofs.Rounds.{run_step, run_all, winner_is, behind_kept}
 use Rattle.search.proofs.winner.Goals as goal
 

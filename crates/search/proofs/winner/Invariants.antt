@@ -1,5 +1,5 @@
 -- `search::winner` meets its contract: what is left of the rounds gives what all of them give.
-use Rattle.stored.specs.Populations.{population_in}
+use Rattle.search.specs.Populations.{population_in}
 use Rattle.search.proofs.Rounds.{RunTo}
 use Rattle.search.proofs.winner.Given as goal
 

@@ -1,2 +1,0 @@
--- The text of an answer.
-pub mod Text

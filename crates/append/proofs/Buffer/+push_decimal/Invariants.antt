@@ -1,5 +1,0 @@
--- Each call has a smaller number.
-use Rattle.append.proofs.Buffer.+push_decimal.Given as goal
-
-abbrev pub decreases-push_decimal : goal.decreases-push_decimal
-decreases-push_decimal g l = l.number

@@ -1,5 +1,0 @@
--- Each call has one digit less to put.
-use Rattle.append.proofs.Buffer.+push_hex.Given as goal
-
-abbrev pub decreases-push_hex : goal.decreases-push_hex
-decreases-push_hex g l = l.count

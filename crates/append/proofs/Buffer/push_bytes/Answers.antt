@@ -1,9 +1,0 @@
--- `Buffer::push_bytes` meets its contract: what fits of the bytes stands behind what was held.
-use Rattle.append.proofs.Buffers.{with_part}
-use Rattle.append.proofs.Buffer.push_bytes.Goals as goal
-
-pub returns : goal.returns
-returns g c =
-    let put = c.try_extend_from_slice-fits.ensures in
-    rw (← c.self.view_is)
-    (with_part g.row.N c.self.inside.bytes.items c.min-count.result c.remaining_capacity.result c.args.bytes.now c.min-count.ensures c.remaining_capacity.ensures c.try_extend_from_slice-fits.result _ put.variant put.ok)

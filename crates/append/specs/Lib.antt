@@ -1,3 +1,0 @@
-pub mod Appending
-pub mod Numerals
-pub mod Ascii

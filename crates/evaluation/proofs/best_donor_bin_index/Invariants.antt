@@ -1,5 +1,0 @@
-use Rattle.evaluation.specs.OnSheets.{fitter}
-use Rattle.evaluation.proofs.best_donor_bin_index.Given as goal
-
-abbrev pub ghost-first_best : goal.ghost-first_best
-ghost-first_best a = fitter

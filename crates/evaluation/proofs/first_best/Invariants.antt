@@ -1,8 +1,0 @@
--- The loop's invariant: what is left, from the best sheet so far, gives what all sheets give.
-use lib.ListN.{length}
-use Rattle.evaluation.specs.OnSheets.{share_at}
-use Rattle.evaluation.proofs.BestIndex.{Held}
-use Rattle.evaluation.proofs.first_best.Given as goal
-
-abbrev pub invariant-loop-k : goal.invariant-loop-k
-invariant-loop-k g l = Held g.order (share_at l.sheets) (length l.sheets) l.best l.held l.k

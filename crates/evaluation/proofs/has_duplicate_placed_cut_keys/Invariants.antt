@@ -1,8 +1,0 @@
--- The loop's invariant: what is left has a key twice exactly if all have.
-use mathlib.Core.Path.{◌≡◌}
-use lib.ListN.{drop}
-use Rattle.evaluation.specs.Keys.{repeats}
-use Rattle.evaluation.proofs.has_duplicate_placed_cut_keys.Given as goal
-
-abbrev pub invariant-loop-i : goal.invariant-loop-i
-invariant-loop-i l = repeats l.keys ≡ repeats (drop l.i l.keys)

@@ -1,5 +1,0 @@
-use Rattle.evaluation.specs.OnSheets.{less_fit}
-use Rattle.evaluation.proofs.worst_bin_index.Given as goal
-
-abbrev pub ghost-first_best : goal.ghost-first_best
-ghost-first_best a = less_fit

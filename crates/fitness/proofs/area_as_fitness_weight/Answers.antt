@@ -1,7 +1,0 @@
--- The nearest f64.
-use Rattle.model.specs.Fitness.{weight}
-use Rattle.fitness.proofs.area_as_fitness_weight.Goals as goal
-
-pub returns : goal.returns
-unfolding weight
-returns c = c.nearest_u64_to_f64.ensures

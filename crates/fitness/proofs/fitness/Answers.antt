@@ -1,9 +1,0 @@
--- `fitness::fitness` meets its contract.
-use Rattle.std.proofs.Common.{◌∙◌}
-use lib.Ieee.{of_bits}
-use Rattle.fitness.proofs.Shares.{or_zero}
-use Rattle.fitness.proofs.fitness.Goals as goal
-
-pub returns : goal.returns
-unfolding of_bits
-returns c = c.unwrap_or.ensures ∙ or_zero c.candidate_fitness.result _ c.candidate_fitness.ensures

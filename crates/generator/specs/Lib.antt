@@ -1,0 +1,2 @@
+-- shuffle
+pub mod Shuffle

@@ -1,2 +1,0 @@
--- One attempt to insert a cut.
-pub mod Attempt

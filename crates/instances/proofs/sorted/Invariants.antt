@@ -1,6 +1,0 @@
--- `instances::sorted` meets its contract: the first boards by the numbers of the order.
-use Rattle.instances.proofs.Made.{Boards}
-use Rattle.instances.proofs.sorted.Given as goal
-
-abbrev pub invariant-loop-number : goal.invariant-loop-number
-invariant-loop-number l = Boards l.raw l.number-items l.stock.items l.number-index

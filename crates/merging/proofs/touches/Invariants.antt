@@ -1,8 +1,0 @@
--- `merging::touches`: what is left says what the whole says.
-use mathlib.Core.Path.{◌≡◌}
-use lib.ListN.{drop}
-use Rattle.merging.specs.Merging.{touches}
-use Rattle.merging.proofs.touches.Given as goal
-
-abbrev pub invariant-loop-other : goal.invariant-loop-other
-invariant-loop-other l = touches l.kerf_width l.rect (drop l.other-index l.free) ≡ touches l.kerf_width l.rect l.free

@@ -1,6 +1,0 @@
--- `placing::insert_all` meets its contract.
-use Rattle.placing.proofs.Remaking.{Remaking}
-use Rattle.placing.proofs.insert_all.Given as goal
-
-abbrev pub invariant-loop-word : goal.invariant-loop-word
-invariant-loop-word l = Remaking l.inst l.insertions l.initial.free l.free l.word-index

@@ -1,0 +1,118 @@
+-- A sheet while its making is replayed, and what each step leaves.
+use Rattle.std.specs.Prelude.{ℕ, ◌+◌, ◌*◌, ◌^◌, ◌≤◌, ◌<◌, ◌≡◌, Bool, List, length, take, drop, Option, Some, None}
+use Rattle.std.proofs.Math.Option.{some}
+use Rattle.lists.specs.Base.{concat_map}
+use Rattle.lists.specs.Parts.{patch}
+use Rattle.lists.proofs.Perm.{All}
+use Rattle.model.specs.declared.Rect.{Rect}
+use Rattle.model.specs.declared.StockInstance.{StockInstance}
+use Rattle.model.specs.declared.CutInstance.{CutInstance}
+use Rattle.model.specs.declared.FitResult.{FitResult}
+use Rattle.model.specs.declared.BaselineGuillotineHeuristic.{BaselineGuillotineHeuristic}
+use Rattle.model.specs.Types.{area}
+use Rattle.model.specs.Refusal.{most_side}
+use Rattle.model.specs.Split.{split_direction}
+use Rattle.model.specs.Sheet.{GuillotineSheet, rebuild, placed_area}
+use Rattle.model.specs.Expand.{ProblemInstance}
+use Rattle.model.specs.Plan.{piece_words, sheet_words}
+use Rattle.trust.proofs.Ranges.{BoardRange}
+use Rattle.trust.proofs.Bounded.{Bounded}
+use Rattle.sheet.specs.Places.{Shows}
+use Rattle.sheet.specs.declared.Inserted.{Inserted}
+use Rattle.sheet.specs.Insertions.{Ready}
+use Rattle.guide.specs.declared.subtree.Node.{Node}
+use Rattle.guide.specs.Nodes.{guide_nodes, InCorner}
+use Rattle.guide.specs.Guides.{Becomes, next_guide}
+use Rattle.candidate.specs.Areas.{areas_of}
+use Rattle.candidate.specs.Entries.{cut_of}
+use Rattle.candidate.specs.Stands.{making_in, bin_in}
+use Rattle.project.specs.Problem.{board_in}
+use Rattle.plan.specs.declared.sheet_plan.Progress.{Progress}
+use Rattle.plan.specs.declared.sheet_plan.Body.{Body}
+use Rattle.plan.specs.Rows.{piece}
+
+-- the words of the pieces that a sheet has behind those of an earlier state
+unfoldable pub new_pieces : GuillotineSheet → GuillotineSheet → List ℕ
+new_pieces s t = concat_map piece_words (drop (length s.placed_pieces) t.placed_pieces)
+
+-- ---- the sheet so far
+
+-- its free rectangles, its guide's nodes, and the numbers beside them
+pub record Replayed (kerf : ℕ) (s : GuillotineSheet) (rects : List Rect) (guide : List Node) (p : Progress) : Type 0 where
+  pub free : Shows rects s.stock.pattern s
+  pub ready : Ready kerf rects
+  pub nodes : guide ≡ guide_nodes s.slicing_tree
+  pub pieces : p.pieces ≡ length s.placed_pieces
+  pub placed : p.placed ≡ placed_area s
+
+-- a board of an admitted instance, and its kerf
+pub record Boardable (kerf : ℕ) (stock : StockInstance) : Type 0 where
+  pub thin : kerf ≤ most_side
+  pub board : BoardRange stock
+
+-- insertions of which those on a board make its sheet
+pub record Rebuildable (inst : ProblemInstance) (words : List ℕ) (board : ℕ) : Type 0 where
+  pub few : length words ≤ 64
+  pub known : board < length inst.stock
+  pub cuts : All (λ w. cut_of w < length inst.cuts) words
+  pub rebuilt : rebuild inst.kerf_width (board_in inst board) (making_in inst words board) ≡ some (bin_in inst words board)
+
+-- ---- one piece
+
+-- room for a piece's words, and for its subtree in the guide
+pub record Takeable (pieces : List ℕ) (guide : List Node) (free_rect : Rect) (fit : FitResult) (p : Progress) : Type 0 where
+  pub room : 9 * p.pieces + 9 ≤ length pieces
+  pub space : length guide + 4 ≤ 257
+  pub corner : InCorner free_rect fit.rect
+  pub area : p.placed + area fit.rect < 2 ^ 64
+
+pub record Takes (kerf : ℕ) (cut : CutInstance) (h : BaselineGuillotineHeuristic) (free_rect : Rect) (fit : FitResult) (merged : Bool) (p : Progress)
+    (before after : List ℕ) (guide guide' : List Node) (q : Progress) : Type 0 where
+  pub words : after ≡ patch before (9 * p.pieces) (piece_words (piece cut h fit))
+  pub nodes : Becomes guide guide' (next_guide merged (split_direction free_rect fit.rect h.split) kerf free_rect fit.rect cut)
+  pub pieces : q.pieces ≡ p.pieces + 1
+  pub placed : q.placed ≡ p.placed + area fit.rect
+
+-- the same of an insertion, which found a place
+abbrev pub TakeableIn : List ℕ → List Node → Option Inserted → Progress → Type 0
+TakeableIn words guide None p = ⊥
+TakeableIn words guide (Some i) p = Takeable words guide i.free_rect i.fit p
+
+abbrev pub TakesIn : ℕ → CutInstance → BaselineGuillotineHeuristic → Option Inserted → Progress → List ℕ → List ℕ → List Node → List Node → Progress → Type 0
+TakesIn kerf cut h None p before after guide guide' q = ⊥
+TakesIn kerf cut h (Some i) p before after guide guide' q = Takes kerf cut h i.free_rect i.fit i.merged p before after guide guide' q
+
+-- ---- insertions
+
+-- one insertion more: the sheet that it makes, its new pieces written behind those before
+pub record ReplaysWord (inst : ProblemInstance) (words : List ℕ) (board i : ℕ) (before after : List ℕ) (rects : List Rect) (guide : List Node) (p : Progress) : Type 0 where
+  pub state : Replayed inst.kerf_width (bin_in inst (take (i + 1) words) board) rects guide p
+  pub pieces : after ≡ patch before (9 * length (bin_in inst (take i words) board).placed_pieces) (new_pieces (bin_in inst (take i words) board) (bin_in inst (take (i + 1) words) board))
+
+-- all of them
+pub record ReplaysSheet (kerf : ℕ) (s : GuillotineSheet) (before after : List ℕ) (rects : List Rect) (guide : List Node) (p : Progress) : Type 0 where
+  pub state : Replayed kerf s rects guide p
+  pub pieces : after ≡ patch before 0 (concat_map piece_words s.placed_pieces)
+
+-- ---- the whole part
+
+pub record WritesSheet (s : GuillotineSheet) (before after : List ℕ) (b : Body) : Type 0 where
+  pub words : after ≡ patch before 0 (sheet_words s)
+  pub size : b.size ≡ length (sheet_words s)
+  pub areas : b.areas ≡ areas_of s
+
+-- a sheet made again, whose pieces are in the part
+pub record Finishable (part : List ℕ) (rects : List Rect) (guide : List Node) (stock : StockInstance) (p : Progress) : Type 0 where
+  pub kerf : ℕ
+  pub thin : kerf ≤ most_side
+  pub sheet : GuillotineSheet
+  pub board : sheet.stock ≡ stock
+  pub state : Replayed kerf sheet rects guide p
+  pub bounded : Bounded kerf sheet
+  pub few : length sheet.placed_pieces ≤ 64
+  pub room : length (sheet_words sheet) ≤ length part
+
+-- whichever sheet it is, and whichever part its pieces were put into
+pub record Finishes (part after : List ℕ) (rects : List Rect) (guide : List Node) (stock : StockInstance) (p : Progress) (b : Body) : Type 0 where
+  pub finishes : (kerf : ℕ) (s : GuillotineSheet) (before : List ℕ) → s.stock ≡ stock → Replayed kerf s rects guide p
+      → length before ≡ length part → part ≡ patch before 10 (concat_map piece_words s.placed_pieces) → WritesSheet s before after b

@@ -1,7 +1,0 @@
--- `plan_text::id_line` meets its contract.
-use native.Mathlib.Omega.{arith}
-use Rattle.append.proofs.Buffers.{with_bytes-append}
-use Rattle.plan_text.proofs.id_line.Goals as goal
-
-pub returns : goal.returns
-returns g c = grind (arith, with_bytes-append)

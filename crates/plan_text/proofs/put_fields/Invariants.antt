@@ -1,9 +1,0 @@
--- The fields passed are in the buffer.
-use mathlib.Core.Path.{◌≡◌}
-use Rattle.lists.specs.Base.{concat_map, range}
-use Rattle.append.specs.Appending.{with_bytes}
-use Rattle.plan_text.specs.Rows.{field_at}
-use Rattle.plan_text.proofs.put_fields.Given as goal
-
-abbrev pub invariant-loop-i : goal.invariant-loop-i
-invariant-loop-i g l = l.text ≡ with_bytes g.row.N l.initial.text (concat_map (field_at l.words l.from) (range l.i))

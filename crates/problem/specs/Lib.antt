@@ -1,2 +1,0 @@
--- The definitions that the contracts of a problem cite.
-pub mod Problem

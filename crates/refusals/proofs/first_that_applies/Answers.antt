@@ -1,8 +1,0 @@
--- `refusals::first_that_applies` meets its contract: no check before the present one applies.
-use mathlib.Core.Path.{sym, ◌∙◌}
-use borrow.Author.Rules.{rules}
-use Rattle.refusals.proofs.Checks.{check_passes}
-use Rattle.refusals.proofs.first_that_applies.Goals as goal
-
-pub loop-check-preserved : goal.loop-check-preserved
-loop-check-preserved c = sym (check_passes c.args.checks.now c.loop-check.check-index (search rules) (search rules)) ∙ c.loop-check.invariant

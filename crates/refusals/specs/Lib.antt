@@ -1,2 +1,0 @@
--- The definitions that the contracts of the checks cite.
-pub mod Checks

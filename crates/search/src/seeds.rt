@@ -1,0 +1,178 @@
+// The numbers of an effort, the rows of heuristics, and the seeds of the first population: `PopulationPipelineConfig`, `heuristic_variants`,
+// `initial_candidate_seeds`.
+
+ghost use Rattle.std.specs.Prelude.{◌≡◌, ◌+◌, ◌<◌, ◌≤◌, List, [], length, slice_index_or};
+ghost use Rattle.model.specs.declared.CutInstance.{CutInstance};
+ghost use Rattle.model.specs.Expand.{ProblemInstance};
+ghost use Rattle.model.specs.Search.{heuristic, search_numbers, heuristic_variants, default_heuristic, initial_seeds};
+ghost use Rattle.generator.specs.Shuffle.{shuffled};
+ghost use Rattle.search.specs.Rows.{numbers_of, sorted_seeds};
+ghost use Rattle.search.specs.Seeds.{InOrder, IsSeed};
+
+use arrayvec::ArrayVec;
+use generator::shuffle;
+use model::{
+    BaselineGuillotineHeuristic, GuillotineRectChoice, GuillotineSplitHeuristic, OptimizerEffort,
+    RotationPreference,
+};
+use words::copying;
+
+// An order of the cuts, each by its place in the catalogue, and the heuristic that places them.
+#[derive(Drop)]
+pub struct CandidateSeed {
+    pub cut_order: ArrayVec<u32, 64>,
+    pub heuristic: BaselineGuillotineHeuristic,
+}
+
+// What is left of PopulationPipelineConfig: max_candidates cuts nothing off. `variants` is a setting, beside which no value stands.
+#[derive(Clone, Copy)]
+pub struct SearchNumbers {
+    pub variants: bool,
+    pub shuffles: usize,
+    pub generations: usize,
+    pub survivors: usize,
+    pub first_seed: u64,
+}
+
+// ---- the numbers and the rows of the source
+
+pub fn search_numbers(effort: OptimizerEffort) -> SearchNumbers
+    ensures { numbers_of result ≡ search_numbers effort }
+{
+    match effort {
+        OptimizerEffort::Fast => SearchNumbers {
+            variants: false,
+            shuffles: 0,
+            generations: 0,
+            survivors: 0,
+            first_seed: 0,
+        },
+        OptimizerEffort::Balanced => SearchNumbers {
+            variants: true,
+            shuffles: 8,
+            generations: 1,
+            survivors: 16,
+            first_seed: 0,
+        },
+        OptimizerEffort::Thorough => SearchNumbers {
+            variants: true,
+            shuffles: 24,
+            generations: 4,
+            survivors: 32,
+            first_seed: 0,
+        },
+    }
+}
+
+fn row(
+    rect_choice: GuillotineRectChoice,
+    split: GuillotineSplitHeuristic,
+    rotation: RotationPreference,
+) -> BaselineGuillotineHeuristic
+    ensures { result ≡ heuristic rect_choice split rotation }
+{
+    BaselineGuillotineHeuristic {
+        rect_choice,
+        split,
+        rotation,
+    }
+}
+
+pub fn heuristic_variants() -> [BaselineGuillotineHeuristic; 5]
+    ensures { result ≡ heuristic_variants }
+{
+    let upright = RotationPreference::PreferUpright;
+    let longer = GuillotineSplitHeuristic::LongerAxis;
+    [
+        row(
+            GuillotineRectChoice::Area,
+            GuillotineSplitHeuristic::Horizontal,
+            upright,
+        ),
+        row(GuillotineRectChoice::LongSide, longer, upright),
+        row(
+            GuillotineRectChoice::LongSide,
+            GuillotineSplitHeuristic::MaximizeArea,
+            upright,
+        ),
+        row(GuillotineRectChoice::ShortSide, longer, upright),
+        row(
+            GuillotineRectChoice::LongSide,
+            longer,
+            RotationPreference::PreferRotated,
+        ),
+    ]
+}
+
+// Row k, and the source's default where there is none.
+fn heuristic_at(rows: &[BaselineGuillotineHeuristic], k: usize) -> BaselineGuillotineHeuristic
+    ensures { result ≡ slice_index_or rows.now k (default_heuristic []) }
+{
+    if k < rows.len() {
+        return rows[k];
+    }
+    row(
+        GuillotineRectChoice::Area,
+        GuillotineSplitHeuristic::Horizontal,
+        RotationPreference::PreferUpright,
+    )
+}
+
+// default_heuristic: the first row.
+pub fn default_heuristic(rows: &[BaselineGuillotineHeuristic]) -> BaselineGuillotineHeuristic
+    ensures { result ≡ default_heuristic rows.now }
+{
+    heuristic_at(rows, 0)
+}
+
+// ---- seeds
+
+// Rows and numbers are apart as in the source, where the rows are the backend's and the numbers the config's. Their limits are clauses of what
+// needs them: the seeds alone have none.
+
+// How many seeds have the sorted order: one, and with variants one for each row.
+fn sorted_seeds(rows: &[BaselineGuillotineHeuristic], n: SearchNumbers) -> usize
+    ensures { result ≡ sorted_seeds rows.now n }
+{
+    if n.variants { rows.len().max(1) } else { 1 }
+}
+
+pub fn seed_count(rows: &[BaselineGuillotineHeuristic], n: SearchNumbers) -> usize
+    requires { (length rows.now ≤ 8) × (n.shuffles ≤ 24) }
+    ensures { ((cuts : List CutInstance) → result ≡ length (initial_seeds rows.now cuts (numbers_of n))) × (result ≤ 32) }
+{
+    sorted_seeds(rows, n) + n.shuffles
+}
+
+// shuffle_cut_order of an order that is sorted already.
+fn shuffled_order(sorted: &ArrayVec<u32, 64>, seed: u64) -> ArrayVec<u32, 64>
+    ensures { result.items ≡ shuffled 0 seed sorted.now.items }
+{
+    let mut order = copying::listed(sorted.as_slice());
+    shuffle::shuffle_cut_order(order.as_mut_slice(), seed);
+    order
+}
+
+// The k-th of initial_candidate_seeds, from the sorted order.
+pub fn initial_candidate_seed(
+    sorted: &ArrayVec<u32, 64>,
+    rows: &[BaselineGuillotineHeuristic],
+    n: SearchNumbers,
+    k: usize,
+) -> CandidateSeed
+    requires { k < sorted_seeds rows.now n + n.shuffles }
+    ensures { (inst : ProblemInstance) → InOrder inst sorted.now.items → IsSeed rows.now inst (numbers_of n) k result }
+{
+    let first = sorted_seeds(rows, n);
+    if k < first {
+        return CandidateSeed {
+            cut_order: copying::listed(sorted.as_slice()),
+            heuristic: heuristic_at(rows, k),
+        };
+    }
+    let seed = n.first_seed.wrapping_add((k - first) as u64);
+    CandidateSeed {
+        cut_order: shuffled_order(sorted, seed),
+        heuristic: heuristic_at(rows, 0),
+    }
+}

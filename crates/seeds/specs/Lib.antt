@@ -1,3 +1,0 @@
--- The definitions that the contracts of seeds cite.
-pub mod Rows
-pub mod Seeds

@@ -1,0 +1,56 @@
+-- What a split leaves: at most one rectangle each way, in range.
+use Rattle.std.specs.Prelude.{if◌then◌else◌, Option, Some, None, option_to_list}
+use Prim.Native.Nat.{ℕ, ◌-◌, ◌≤◌, ◌<◌}
+use native.Mathlib.Omega.{arith}
+use mathlib.Core.Path.{◌≡◌, refl}
+use mathlib.Core.Bool.{Bool, true, false}
+use mathlib.Core.List.{List, [], ◌∷◌}
+use lib.Dec.{ltb}
+use lib.ListN.{length}
+use borrow.Author.Tests.{ltb-true}
+use Rattle.lists.specs.Base.{swap_remove}
+use Rattle.lists.proofs.Perm.{All, all_append, all_perm, swap_remove_out}
+use Rattle.model.specs.declared.Rect.{Rect}
+use Rattle.model.specs.declared.Direction.{Direction}
+use Rattle.model.specs.Types.{no_rect}
+use Rattle.model.specs.Split.{bottom_remainder, right_remainder, bottom_width, right_length, split_free_rect}
+use Rattle.sheet.specs.Bounds.{Small, Inside}
+
+pub remainder_one : (r : Option Rect) → length (option_to_list r) ≤ 1
+remainder_one None = omega arith
+remainder_one (Some r) = omega arith
+
+one_small : (b : Bool) (r : Rect) → (b ≡ true → Small r) → All Small (if b then r ∷ [] else [])
+one_small true r p = (p refl, tt)
+one_small false r p = tt
+
+module _ (kerf : ℕ) (free placed : Rect) (s : Small free) (w : Inside placed free) where
+  bottom_small : (width : ℕ) → width ≤ free.width → All Small (bottom_remainder kerf free placed width)
+  unfolding bottom_remainder
+  bottom_small width h =
+      one_small (ltb kerf (free.length - placed.length)) _
+      (λ t. let k : kerf < free.length - placed.length = ltb-true _ _ t in record { across = omega arith; along = omega arith })
+
+  right_small : (long : ℕ) → long ≤ free.length → All Small (right_remainder kerf free placed long)
+  unfolding right_remainder
+  right_small long h =
+      one_small (ltb kerf (free.width - placed.width)) _
+      (λ t. let k : kerf < free.width - placed.width = ltb-true _ _ t in record { across = omega arith; along = omega arith })
+
+  width_within : (d : Direction) → bottom_width d free placed ≤ free.width
+  width_within Direction.Horizontal = omega arith
+  width_within Direction.Vertical = w.across
+
+  length_within : (d : Direction) → right_length d free placed ≤ free.length
+  length_within Direction.Horizontal = w.along
+  length_within Direction.Vertical = omega arith
+
+  pub split_small : (d : Direction) → All Small (split_free_rect d kerf free placed)
+  unfolding split_free_rect
+  split_small d =
+      all_append Small (bottom_remainder kerf free placed (bottom_width d free placed)) (right_remainder kerf free placed (right_length d free placed))
+      (bottom_small (bottom_width d free placed) (width_within d)) (right_small (right_length d free placed) (length_within d))
+
+-- what is left once one of them is taken out
+pub swap_small : (l : List Rect) (i : ℕ) → i < length l → All Small l → All Small (swap_remove no_rect i l)
+swap_small l i h a = (all_perm Small (swap_remove_out no_rect l i h) a).1

@@ -1,6 +1,0 @@
--- One free rectangle, one free leaf, no piece.
-use Rattle.sheet_plan.proofs.Steps.{bare}
-use Rattle.sheet_plan.proofs.bare_board.Goals as goal
-
-pub returns : goal.returns
-returns c = bare c.args.kerf_width c.args.stock _ _ c.requires c.open.ensures c.new_guide.ensures

@@ -1,2 +1,0 @@
-pub mod Remainders
-pub mod Bounds

@@ -1,3 +1,0 @@
--- The definitions that the contracts of stored candidates cite.
-pub mod Slots
-pub mod Populations

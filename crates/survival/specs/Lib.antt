@@ -1,2 +1,0 @@
--- The definitions that the contracts of survival cite.
-pub mod Ranks

@@ -1,0 +1,51 @@
+-- A file's text, from what the entry answers and leaves.
+use Prim.Native.Nat.{ℕ}
+use native.Mathlib.Omega.{arith}
+use mathlib.Core.Path.{◌≡◌, sym, ap, ◌∙◌}
+use mathlib.Core.List.{List}
+use lib.ListN.{replicate}
+use Rattle.model.specs.Outcome.{least_workspace, least_plan}
+use Rattle.project.specs.declared.Refusal.{Refusal}
+use Rattle.project.specs.Refusals.{refusal_number}
+use Rattle.optimizer.specs.Promise.{number_of_answer, Promise}
+use Rattle.text.specs.PlanText.{plan_text}
+use Rattle.text.specs.Text.{refusal_text, answer_text, planned, file_text}
+use borrow.Author.Tests.{ne_eqb}
+
+module _ {file w p : List ℕ} {n : ℕ} (h : Promise file (replicate least_workspace 0) (replicate least_plan 0) n w p) where
+  told : answer_text n p ≡ file_text file
+  unfolding file_text
+  told = ap (λ (k : ℕ). answer_text k p) h.answer ∙ ap (answer_text (number_of_answer (planned file).answer)) h.plan
+
+  is_plan : n ≡ 0 → plan_text p ≡ answer_text n p
+  unfolding answer_text
+  is_plan e = sym (ap (λ (k : ℕ). answer_text k p) e)
+
+  is_refusal : (n ≡ 0 → ⊥) → refusal_text n ≡ answer_text n p
+  unfolding answer_text
+  is_refusal e = rw (ne_eqb n 0 e)
+
+  pub text_of_plan : n ≡ 0 → plan_text p ≡ file_text file
+  text_of_plan e = is_plan e ∙ told
+
+  pub text_of_refusal : (n ≡ 0 → ⊥) → refusal_text n ≡ file_text file
+  text_of_refusal e = is_refusal e ∙ told
+
+pub refusal_number-positive : (r : Refusal) → refusal_number r ≡ 0 → ⊥
+refusal_number-positive Refusal.TooSmallMemory e = omega arith
+refusal_number-positive Refusal.NotWellFormed e = omega arith
+refusal_number-positive Refusal.BadSettings e = omega arith
+refusal_number-positive Refusal.LargeKerf e = omega arith
+refusal_number-positive Refusal.BadCodes e = omega arith
+refusal_number-positive Refusal.ZeroSide e = omega arith
+refusal_number-positive Refusal.LargeSide e = omega arith
+refusal_number-positive Refusal.UnlimitedStock e = omega arith
+refusal_number-positive Refusal.RepeatedId e = omega arith
+refusal_number-positive Refusal.TooManyStockInstances e = omega arith
+refusal_number-positive Refusal.ZeroQuantity e = omega arith
+refusal_number-positive Refusal.TooManyCutInstances e = omega arith
+refusal_number-positive Refusal.NoStock e = omega arith
+refusal_number-positive Refusal.NestedLayout e = omega arith
+refusal_number-positive Refusal.CutFitsNoStock e = omega arith
+refusal_number-positive Refusal.CutAreaTooLarge e = omega arith
+refusal_number-positive Refusal.NoCandidate e = omega arith

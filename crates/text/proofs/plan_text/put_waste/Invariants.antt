@@ -1,0 +1,11 @@
+-- The rows passed are in the buffer.
+use Prim.Native.Nat.{◌+◌, ◌*◌}
+use mathlib.Core.Path.{◌≡◌}
+use Rattle.lists.specs.Base.{concat_map, range}
+use Rattle.trust.specs.Words.{waste_size}
+use Rattle.words.specs.Appending.{with_bytes}
+use Rattle.text.specs.Rows.{waste_at}
+use Rattle.text.proofs.plan_text.put_waste.Given as goal
+
+abbrev pub invariant-loop-k : goal.invariant-loop-k
+invariant-loop-k g l = l.text ≡ with_bytes g.row.N l.initial.text (concat_map (λ k. waste_at l.body (l.start + waste_size * k)) (range l.k))

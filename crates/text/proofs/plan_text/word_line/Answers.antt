@@ -1,0 +1,7 @@
+-- `plan_text::word_line` meets its contract.
+use native.Mathlib.Omega.{arith}
+use Rattle.words.proofs.append.Buffers.{with_bytes-append}
+use Rattle.text.proofs.plan_text.word_line.Goals as goal
+
+pub returns : goal.returns
+returns g c = grind (arith, with_bytes-append)

@@ -1,0 +1,32 @@
+// The text of the planner's answer to a project file, as `cutplan` prints it: its plan, or the number of its refusal.
+#![tactic(auto)]
+
+ghost use Rattle.std.specs.Prelude.{◌≡◌};
+ghost use Rattle.project.specs.Refusals.{refusal_number};
+ghost use Rattle.words.specs.Appending.{with_bytes};
+ghost use Rattle.text.specs.Text.{refusal_text, file_text};
+
+mod plan_text; // The text of a plan's words, as the program `cutplan` prints it
+
+use project::Refusal;
+use words::append::Buffer;
+
+fn put_refusal<const N: usize>(refusal: Refusal, text: &mut Buffer<N>)
+    ensures { text.new ≡ with_bytes N text.old (refusal_text (refusal_number refusal)) }
+{
+    text.push_bytes(b"refused ");
+    text.push_decimal(u64::from(refusal.number()));
+    text.push(b'\n');
+}
+
+// The text of the answer to a file, as far as there is room.
+pub fn put_answer<const N: usize>(file: &[u8], text: &mut Buffer<N>)
+    ensures { text.new ≡ with_bytes N text.old (file_text file.now) }
+{
+    let mut workspace = [0u32; 16_384];
+    let mut plan = [0u32; 4_500];
+    match optimizer::optimize(file, &mut workspace, &mut plan) {
+        Ok(()) => plan_text::put_plan(&plan, text),
+        Err(refusal) => put_refusal(refusal, text),
+    }
+}

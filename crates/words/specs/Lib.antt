@@ -1,0 +1,6 @@
+-- copying
+pub mod Inserted
+-- append
+pub mod Appending
+pub mod Numerals
+pub mod Ascii
