@@ -3,40 +3,50 @@
 
     tools/gate_edits.py [CRATE...]      from the repository's root
 
-A function has a choice if its text, or that of a private function it reaches in its crate, has a branch, a comparison, a remainder or a shift; a loop's
+A function is public if it is marked so and another crate calls it, or no other module of its own crate does. It has a choice if its text, or that of a private function it reaches in its crate, has a branch, a comparison, a remainder or a shift; a loop's
 bound alone is none. Which operand comes first, or which byte, is a choice too, and no pattern finds it: read the functions listed as having none.
 An edit is a wrong answer of it if it changes that text. A private function's wrong answers are those of the public ones above it."""
 import re, sys
-from try_edits import crates, edits_of_gate, functions, touched
+from try_edits import calls, crates, edits_of_gate, functions, touched
 
 CHOICE = re.compile(r"\b(if|match)\b|>>|<<| (?:<|>|<=|>=|==|!=|%) ")
 
 
-def own_text(name, found):
-    """A function and the private ones that it reaches."""
-    seen, todo = set(), [name]
+def promises(crate, found, everything):
+    """The functions of a crate that promise something to others."""
+    others = [text for c, fs in everything.items() if c != crate for _, text in fs.values()]
+    for function, (public, _) in found.items():
+        module, name = function
+        outside = any(calls(text, None, (module or crate, name)) for text in others)
+        inside = any(calls(text, here, function) for (here, _), (_, text) in found.items() if here != module)
+        if public and (outside or not inside):
+            yield function
+
+
+def own_text(function, found, promised):
+    """A function and those that it reaches without another that promises something."""
+    seen, todo = set(), [function]
     while todo:
         f = todo.pop()
         if f not in seen:
             seen.add(f)
-            todo += [g for g, (public, _) in found.items() if not public and re.search(rf"\b{g}\(", found[f][1])]
+            todo += [g for g in found if g not in promised and calls(found[f][1], f[0], g)]
     return seen
 
 
 def main():
-    short = 0
+    short, everything = 0, {c: functions(c) for c in crates()}
     for crate in sys.argv[1:] or crates():
-        found = functions(crate)
+        found = everything[crate]
+        promised = list(promises(crate, found, everything))
         edits = [(e[0], touched(crate, e) or set()) for e in edits_of_gate(crate)]
-        for name, (public, _) in found.items():
-            if not public:
-                continue
-            text = own_text(name, found)
+        for function in promised:
+            text = own_text(function, found, promised)
             choice = any(CHOICE.search(found[f][1]) for f in text)
             mine = [label for label, names in edits if names & text]
             few = choice and len(mine) < 2
             short += few
-            print(f"{crate}::{name}: {'a choice' if choice else 'no choice'}; {', '.join(mine) or 'none'}{'  FEWER THAN TWO' if few else ''}")
+            print(f"{'::'.join(filter(None, (crate,) + function))}: {'a choice' if choice else 'no choice'}; {', '.join(mine) or 'none'}{'  FEWER THAN TWO' if few else ''}")
     print(f"{short} functions with a choice have fewer than two")
     sys.exit(short > 0)
 

@@ -85,16 +85,29 @@ def edits_of(crate):
     return edits_of_gate(crate) + (parse(open(more).read(), None) if os.path.exists(more) else [])
 
 
+def module_of(file):
+    """src/x.rt is the module x; the root's name is empty."""
+    name = os.path.basename(file)[:-3]
+    return "" if name in ("lib", "main") else name
+
+
 def functions(crate):
-    """Name to (public, text) of each function of a crate: its code alone."""
+    """(module, name) to (public, text) of each function of a crate: its code alone."""
     found = {}
     for file in sorted(os.listdir(f"crates/{crate}/src")):
         if file.endswith(".rt"):
             text = ASIDE.sub("", open(f"crates/{crate}/src/{file}").read())
             heads = list(HEAD.finditer(text))
             for head, after in zip(heads, heads[1:] + [None]):
-                found[head.group(2)] = (bool(head.group(1)), text[head.end():after.start() if after else len(text)])
+                found[module_of(file), head.group(2)] = (bool(head.group(1)), text[head.end():after.start() if after else len(text)])
     return found
+
+
+def calls(text, here, function):
+    """Whether a text of the module `here` calls a function: by its name there, by its module or type or as a method elsewhere."""
+    module, name = function
+    own = rf"\b{name}\(" if here == module else rf"(?:\b{module or 'crate'}::|\b[A-Z]\w*::|\.){name}\("
+    return bool(re.search(own, text))
 
 
 def reached(names, found):
@@ -104,7 +117,7 @@ def reached(names, found):
         f = todo.pop()
         if f not in seen:
             seen.add(f)
-            todo += [g for g in found if re.search(rf"\b{g}\(", found[f][1])]
+            todo += [g for g in found if calls(found[f][1], f[0], g)]
     return seen
 
 
@@ -134,14 +147,14 @@ def fault(crate, edit):
 
 
 def touched(crate, edit):
-    """The functions an edit changes, or none if it changes something else."""
+    """The functions an edit changes, each as (module, name), or none if it changes something else."""
     names = set()
     for file, old, _ in edit[1]:
         text = open(f"crates/{crate}/{file}").read()
         name = function_at(text, text.index(old)) if file.startswith("src/") and text.count(old) == 1 else None
         if name is None:
             return None
-        names.add(name)
+        names.add((module_of(file), name))
     return names
 
 
@@ -173,15 +186,16 @@ def linked(folder, to):
     shutil.copytree(folder, to, symlinks=True, copy_function=copy)
 
 
-def proof_of(name):
-    """Where a function's proof stands, below proofs/."""
-    return rf"(?:\w+/)*(?:\+\w+)*\+?{name}(?:\+\w+)*/\S+?"
+def proof_of(function):
+    """Where a function's proof stands, below proofs/: in its module's folder, and in its type's."""
+    module, name = function
+    return rf"{module + '/' if module else ''}(?:[A-Z]\w*/)*(?:\+\w+)*\+?{name}(?:\+\w+)*/\S+?"
 
 
-def proofs_of(folder, name):
+def proofs_of(folder, function):
     """The files of a function's proof."""
     files = [os.path.relpath(f"{at}/{file}", f"{folder}/proofs") for at, _, files in os.walk(f"{folder}/proofs") for file in files]
-    return [f"{folder}/proofs/{file}" for file in sorted(files) if re.fullmatch(proof_of(name), file)]
+    return [f"{folder}/proofs/{file}" for file in sorted(files) if re.fullmatch(proof_of(function), file)]
 
 
 def followed(crate, log, names):
@@ -236,16 +250,18 @@ def errors(log, where):
     return [l for l in log.split("\n") if re.match(rf"(?:\./)?{where}:\d+:\d+: error", l) and not ECHO.search(l)]
 
 
-def verdict(log, status, name):
+def verdict(log, status, function):
     """What became of a function that was edited, and the line that shows it."""
-    lines = [l for l in log.split("\n") if re.match(rf"fn (?:\w+::)+{name}(?:::closure\S*)?: ", l)]
-    own = errors(log, f"proofs/{proof_of(name)}")
+    module, name = function
+    path = rf"\w+::{module + '::' if module else ''}(?:[A-Z]\w*::)*{name}"
+    lines = [l for l in log.split("\n") if re.match(rf"fn {path}(?:::closure\S*)?: ", l)]
+    own = errors(log, f"proofs/{proof_of(function)}")
     facts = [l for l in own if not SHAPE.search(l)]
     if facts:
         return REFUSED, facts[0]
     unproved = [l for l in lines if "`search` did not prove" in l and "; it calls `" not in l]
     if unproved:
-        values = [l for l in log.split("\n") if re.match(rf"note: `[^`]+` of (?:\./)?proofs/(?:\S*/)?\+?{name}/\S+ may be false", l)]
+        values = [l for l in log.split("\n") if re.match(rf"note: `[^`]+` of (?:\./)?proofs/{proof_of(function)} may be false", l)]
         return REFUSED, next((l for l in values if "`returns" in l), values[0])[6:] if values else unproved[0]
     if own:
         return NAMED, own[0]
@@ -253,7 +269,7 @@ def verdict(log, status, name):
         return PROVED, lines[0]
     if not lines and status == 0:
         return PROVED, "the crate is proved"
-    return UNJUDGED, lines[0] if lines else f"no line speaks of {name}"
+    return UNJUDGED, lines[0] if lines else f"no line speaks of {'::'.join(filter(None, function))}"
 
 
 def judge(log, status, names):
