@@ -6,7 +6,7 @@ use Rattle.model.specs.declared.GuillotineRectChoice.{GuillotineRectChoice}
 use Rattle.model.specs.declared.GuillotineSplitHeuristic.{GuillotineSplitHeuristic}
 use Rattle.model.specs.declared.RotationPreference.{RotationPreference}
 use Rattle.model.specs.declared.BaselineGuillotineHeuristic.{BaselineGuillotineHeuristic}
-use Rattle.candidate.specs.Entries.{choice_code, split_code, rotation_code, heuristic_code, choice_of, split_of, rotation_of, heuristic_of, insertion_word, board_of, cut_of, row_of}
+use Rattle.candidate.specs.Entries.{choice_code, split_code, rotation_code, heuristic_code, choice_of, split_of, rotation_of, coded_heuristic, insertion_word, board_of, cut_of, heuristic_of}
 
 -- ---- a heuristic
 
@@ -42,9 +42,9 @@ rotation_back : (r : RotationPreference) → rotation_of (rotation_code r) ≡ r
 rotation_back RotationPreference.PreferUpright = refl
 rotation_back RotationPreference.PreferRotated = refl
 
-pub heuristic_back : (h : BaselineGuillotineHeuristic) → heuristic_of (heuristic_code h) ≡ h
-unfolding heuristic_of heuristic_code
-heuristic_back h =
+pub code_back : (h : BaselineGuillotineHeuristic) → coded_heuristic (heuristic_code h) ≡ h
+unfolding coded_heuristic heuristic_code
+code_back h =
     let c : ℕ = choice_code h.rect_choice in
     let s : ℕ = split_code h.split in
     let r : ℕ = rotation_code h.rotation in
@@ -68,8 +68,8 @@ module _ (board cut : ℕ) (h : BaselineGuillotineHeuristic) where
   unfolding cut_of insertion_word
   cut_back k = omega (arith, heuristic_most h)
 
-  pub row_back : row_of (insertion_word board cut h) ≡ h
-  unfolding row_of insertion_word
-  row_back =
+  pub heuristic_back : heuristic_of (insertion_word board cut h) ≡ h
+  unfolding heuristic_of insertion_word
+  heuristic_back =
       let e : ((board * 64 + cut) * 32 + heuristic_code h) % 32 ≡ heuristic_code h = omega (arith, heuristic_most h) in
-      ap heuristic_of e ∙ heuristic_back h
+      ap coded_heuristic e ∙ code_back h

@@ -25,16 +25,16 @@ module _ (kerf : ℕ) (i : Insertion) where
   TakenAt (s ∷ ss) zero t = try_insert kerf s i ≡ some t
   TakenAt (s ∷ ss) (suc j) t = Refuses s × TakenAt ss j t
 
-  pub data Found (ss : List GuillotineSheet) (j : ℕ) : Type 0 where
-    taken : (t : GuillotineSheet) → TakenAt ss j t → Found ss j
-    refused : All Refuses ss → j ≡ length ss → Found ss j
+  pub data Fits (ss : List GuillotineSheet) (j : ℕ) : Type 0 where
+    taken : (t : GuillotineSheet) → TakenAt ss j t → Fits ss j
+    refused : All Refuses ss → j ≡ length ss → Fits ss j
 
-  pub first_fit_lem : (ss : List GuillotineSheet) → Found ss (first_fit kerf i ss)
+  pub first_fit_lem : (ss : List GuillotineSheet) → Fits ss (first_fit kerf i ss)
   unfolding first_fit
   first_fit_lem [] = refused tt refl
   first_fit_lem (s ∷ ss) = go (try_insert kerf s i) refl (first_fit kerf i ss) (first_fit_lem ss)
     where
-      go : (o : Option GuillotineSheet) → try_insert kerf s i ≡ o → (j : ℕ) → Found ss j → Found (s ∷ ss) (if is_some o then 0 else suc j)
+      go : (o : Option GuillotineSheet) → try_insert kerf s i ≡ o → (j : ℕ) → Fits ss j → Fits (s ∷ ss) (if is_some o then 0 else suc j)
       go none e j (taken t h) = taken t (e, h)
       go none e j (refused h k) = refused (e, h) (ap suc k)
       go (some t) e j f = taken t e

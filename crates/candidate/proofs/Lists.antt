@@ -12,7 +12,7 @@ use Rattle.lists.proofs.Counts.{count_rises}
 use Rattle.lists.proofs.Every.{all_get, pairs_each}
 use Rattle.lists.proofs.Maps.{map_same}
 use Rattle.lists.proofs.Arrays.{remove_at_split, take_remove_at}
-use Rattle.words.specs.Inserted.{insert_at}
+use Rattle.words.specs.Inserted.{with_word_at}
 use Rattle.candidate.specs.Bins.{Other}
 
 -- ---- lists without repetition
@@ -45,19 +45,19 @@ module _ {B : Type 0} (f g : ℕ → B) (b : ℕ) (t : B) (there : g b ≡ t) (o
 module _ (x : ℕ) where
   -- moved down to index s from index j
   abbrev moved : List ℕ → ℕ → ℕ → List ℕ
-  moved l j s = insert_at (remove_at j l) s x
+  moved l j s = with_word_at (remove_at j l) s x
 
   -- as the loop leaves it
-  pub moved_loop : (l : List ℕ) (j s : ℕ) → s ≤ j → j < length l → insert_at (take j l) s x ++ drop (j + 1) l ≡ moved l j s
+  pub moved_loop : (l : List ℕ) (j s : ℕ) → s ≤ j → j < length l → with_word_at (take j l) s x ++ drop (j + 1) l ≡ moved l j s
   moved_loop l j s h k =
       let rest : List ℕ = drop (suc j) l in
       let long : s ≤ length (take j l) = omega (arith, length-take-le j l (omega arith)) in
       let next : j + 1 ≡ suc j = omega arith in
       let whole : remove_at j l ≡ take j l ++ rest = remove_at_split j l in
-      ap (λ (m : ℕ). insert_at (take j l) s x ++ drop m l) next
+      ap (λ (m : ℕ). with_word_at (take j l) s x ++ drop m l) next
       ∙ append_assoc (take s (take j l)) (x ∷ drop s (take j l)) rest
       ∙ ap₂ {C = List ℕ} (λ a b. a ++ (x ∷ b)) (sym (take-append-le s (take j l) rest long)) (sym (drop-append-le s (take j l) rest long))
-      ∙ ap (λ (r : List ℕ). insert_at r s x) (sym whole)
+      ∙ ap (λ (r : List ℕ). with_word_at r s x) (sym whole)
 
   -- within the first n
   pub moved_front : (n : ℕ) (l : List ℕ) (j s : ℕ) → s ≤ j → j < n → take n (moved l j s) ≡ moved (take n l) j s
@@ -82,13 +82,13 @@ module _ (x : ℕ) where
       ap (λ (r : List ℕ). a ∷ r) (moved_parts s j l (le_of_suc-le-suc h) (le_of_suc-le-suc k))
       ∙ ap (λ (m : ℕ). (a ∷ take s l) ++ (x ∷ remove_at m (drop s l))) e
 
-pub moved_perm : (l : List ℕ) (j s : ℕ) → j < length l → Perm (insert_at (remove_at j l) s (get_or l j 0)) l
+pub moved_perm : (l : List ℕ) (j s : ℕ) → j < length l → Perm (with_word_at (remove_at j l) s (get_or l j 0)) l
 moved_perm l j s k =
     let r : List ℕ = remove_at j l in
     also (perm_middle (take s r) (get_or l j 0) (drop s r))
     (subst (λ (q : List ℕ). Perm (get_or l j 0 ∷ q) l) (sym (take-append-drop s r)) (perm_sym (remove_at_perm 0 l j k)))
 
-pub length_moved : (x : ℕ) (l : List ℕ) (j s : ℕ) → j < length l → length (insert_at (remove_at j l) s x) ≡ length l
+pub length_moved : (x : ℕ) (l : List ℕ) (j s : ℕ) → j < length l → length (with_word_at (remove_at j l) s x) ≡ length l
 length_moved x l j s k =
     omega (
       arith,

@@ -22,17 +22,17 @@ use Rattle.model.specs.Expand.{ProblemInstance}
 use Rattle.trust.proofs.Winner.{Admitted}
 use Rattle.trust.proofs.Ranges.{Ranged}
 use Rattle.trust.proofs.Proper.{place_proper}
-use Rattle.words.specs.Inserted.{insert_at}
+use Rattle.words.specs.Inserted.{with_word_at}
 use Rattle.candidate.specs.declared.Candidate.{Candidate as Words}
 use Rattle.candidate.specs.Entries.{insertion_word, board_of, cut_of}
 use Rattle.candidate.specs.Moves.{moved_up, with_insertion, with_unused, with_sheet, first_fit_in, take_place}
 use Rattle.candidate.specs.Stands.{Stands, insertion_in, making_in, bin_in, sheet_boards, available_boards, placed_words, unused_numbers, candidate_in}
 use Rattle.project.specs.Problem.{board_in, cut_in}
-use Rattle.candidate.proofs.Codes.{board_back, cut_back, row_back}
+use Rattle.candidate.proofs.Codes.{board_back, cut_back, heuristic_back}
 use Rattle.candidate.proofs.Lists.{other_sym, map_set, map_else, moved_front, moved_parts, moved_perm, length_moved}
 use Rattle.candidate.specs.Bins.{Other}
 use Rattle.candidate.proofs.Ends.{end_unused, end_sheet, end_new}
-use Rattle.candidate.proofs.FirstFit.{Refuses, TakenAt, Found, taken, refused, first_fit_lem, taken_inside, taken_get, taken_before, taken_behind, in_bins_lem, no_bin_lem, on_stock, no_stock_lem}
+use Rattle.candidate.proofs.FirstFit.{Refuses, TakenAt, Fits, taken, refused, first_fit_lem, taken_inside, taken_get, taken_before, taken_behind, in_bins_lem, no_bin_lem, on_stock, no_stock_lem}
 use Rattle.candidate.proofs.Makings.{making_other, bin_other, rebuilt_bin, rebuilt_same}
 use Rattle.candidate.proofs.Standing.{RebuiltOn, few_boards_lem, length_all_boards, length_sheets, boards_split, boards_once_lem, sheets_apart, bins_split, rebuilt_all, next_known, unused_stays}
 
@@ -156,7 +156,7 @@ module _ (inst : ProblemInstance) (a : Admitted inst) (r : Ranged inst) (k : Wor
 
     insertion_is : insertion_in inst word ≡ insertion
     unfolding insertion_in
-    insertion_is = λ p. record { cut = cut_in inst (cut_back board cut h small_cut p); heuristic = row_back board cut h p }
+    insertion_is = λ p. record { cut = cut_in inst (cut_back board cut h small_cut p); heuristic = heuristic_back board cut h p }
 
     takes : try_insert kerf (bin_in inst words board) (insertion_in inst word) ≡ some t
     takes =
@@ -341,7 +341,7 @@ module _ (inst : ProblemInstance) (a : Admitted inst) (r : Ranged inst) (k : Wor
       unfolding with_sheet with_insertion moved_up
       boards_after =
           rw (moved_front board (length inst.stock) k.boards j k.sheets bare known)
-          (also (subst (λ (b : ℕ). Perm (insert_at (remove_at j boards) k.sheets b) boards) here (moved_perm boards j k.sheets all_known)) st.boards)
+          (also (subst (λ (b : ℕ). Perm (with_word_at (remove_at j boards) k.sheets b) boards) here (moved_perm boards j k.sheets all_known)) st.boards)
 
       on_after : All (λ w. Memᴰ (board_of w) (sheet_boards after)) (placed_words after)
       on_after =
@@ -393,7 +393,7 @@ module _ (inst : ProblemInstance) (a : Admitted inst) (r : Ranged inst) (k : Wor
       sheet_or_new j t at true e = let s = ltb-true j k.sheets e in rw (end_sheet (length inst.stock) k j cut h (known j t at) s) (end_sheet_placed j t at s)
       sheet_or_new j t at false e = let s = ltb-false j k.sheets e in rw (end_new (length inst.stock) k j cut h (known j t at) s) (end_new_placed j t at s)
 
-      go : {j : ℕ} → Found kerf insertion (map (bin_in inst words) boards) j → Placed j (take_place (length inst.stock) k j cut h)
+      go : {j : ℕ} → Fits kerf insertion (map (bin_in inst words) boards) j → Placed j (take_place (length inst.stock) k j cut h)
       go {j} (taken t at) = sheet_or_new j t at (ltb j k.sheets) refl
       go {j} (refused all e) =
           let past : length inst.stock ≤ j = omega (arith, length-map (bin_in inst words) boards, length_all_boards inst (cut ∷ later) k st r) in

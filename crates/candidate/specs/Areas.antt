@@ -40,5 +40,5 @@ fitness_of sheets =
     if board_areas sheets == 0 then none else some (div binary64 (add_shares positive_zero sheets) (weight (board_areas sheets)))
 
 -- no sheet has more placed on it than its board's area
-abbrev pub Inside : List SheetAreas → Type 0
-Inside sheets = All (λ s. s.placed ≤ s.board) sheets
+abbrev pub WithinBoards : List SheetAreas → Type 0
+WithinBoards sheets = All (λ s. s.placed ≤ s.board) sheets

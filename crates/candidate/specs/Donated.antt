@@ -35,16 +35,16 @@ others_than ks n = retain (λ k. not (elem k ks)) (range n)
 -- ---- the left parent's boards
 
 -- Iterator::position: past the last, if there is none
-unfoldable pub index_of : ℕ → List ℕ → ℕ
-index_of x [] = zero
-index_of x (y ∷ ys) = if eqb y x then zero else suc (index_of x ys)
+unfoldable pub place_among : ℕ → List ℕ → ℕ
+place_among x [] = zero
+place_among x (y ∷ ys) = if eqb y x then zero else suc (place_among x ys)
 
 -- ---- the child
 
 -- one sheet on a board, with the insertions that were made, before the other boards of the first parent
 unfoldable pub sheet_of : Words → Words → ℕ → Words
 sheet_of left made board =
-    record { boards = moved_up left.boards (index_of board left.boards) 0; sheets = 1; insertions = made.insertions; unused = made.unused }
+    record { boards = moved_up left.boards (place_among board left.boards) 0; sheets = 1; insertions = made.insertions; unused = made.unused }
 
 -- crossover_child_from_donor_bin, of so many cuts
 unfoldable pub child_words : ℕ → Words → Words → ℕ → BaselineGuillotineHeuristic → Words

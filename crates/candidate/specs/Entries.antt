@@ -39,8 +39,8 @@ abbrev pub rotation_of : ℕ → RotationPreference
 rotation_of zero = RotationPreference.PreferUpright
 rotation_of (suc n) = RotationPreference.PreferRotated
 
-unfoldable pub heuristic_of : ℕ → BaselineGuillotineHeuristic
-heuristic_of code = record { rect_choice = choice_of (code / 6); split = split_of (code / 2 % 3); rotation = rotation_of (code % 2) }
+unfoldable pub coded_heuristic : ℕ → BaselineGuillotineHeuristic
+coded_heuristic code = record { rect_choice = choice_of (code / 6); split = split_of (code / 2 % 3); rotation = rotation_of (code % 2) }
 
 -- ---- an insertion
 
@@ -53,8 +53,8 @@ board_of word = word / 2048
 unfoldable pub cut_of : ℕ → ℕ
 cut_of word = word / 32 % 64
 
-unfoldable pub row_of : ℕ → BaselineGuillotineHeuristic
-row_of word = heuristic_of (word % 32)
+unfoldable pub heuristic_of : ℕ → BaselineGuillotineHeuristic
+heuristic_of word = coded_heuristic (word % 32)
 
 -- the insertions on a board, in their order
 unfoldable pub on_board : ℕ → List ℕ → List ℕ

@@ -4,7 +4,7 @@ use Rattle.lists.specs.Base.{is_some, range, remove_at}
 use Rattle.model.specs.declared.BaselineGuillotineHeuristic.{BaselineGuillotineHeuristic}
 use Rattle.model.specs.Sheet.{GuillotineSheet, Insertion, try_insert}
 use Rattle.model.specs.Expand.{ProblemInstance}
-use Rattle.words.specs.Inserted.{insert_at}
+use Rattle.words.specs.Inserted.{with_word_at}
 use Rattle.candidate.specs.declared.Candidate.{Candidate as Words}
 use Rattle.candidate.specs.Entries.{insertion_word}
 use Rattle.candidate.specs.Stands.{bin_in, placed_words}
@@ -16,7 +16,7 @@ new_words = record { boards = range 64; sheets = 0; insertions = record { items 
 
 -- the board at an index moved to an earlier one
 unfoldable pub moved_up : List ℕ → ℕ → ℕ → List ℕ
-moved_up boards from to = insert_at (remove_at from boards) to (get_or boards from 0)
+moved_up boards from to = with_word_at (remove_at from boards) to (get_or boards from 0)
 
 -- one more insertion
 unfoldable pub with_insertion : Words → ℕ → Words

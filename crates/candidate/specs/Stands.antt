@@ -11,12 +11,12 @@ use Rattle.model.specs.Expand.{ProblemInstance}
 use Rattle.trust.proofs.Proper.{UnderWay}
 use Rattle.project.specs.Problem.{board_in, cut_in}
 use Rattle.candidate.specs.declared.Candidate.{Candidate as Words}
-use Rattle.candidate.specs.Entries.{board_of, cut_of, row_of, on_board}
+use Rattle.candidate.specs.Entries.{board_of, cut_of, heuristic_of, on_board}
 
 -- ---- sheets
 
 unfoldable pub insertion_in : ProblemInstance → ℕ → Insertion
-insertion_in inst word = record { cut = cut_in inst (cut_of word); heuristic = row_of word }
+insertion_in inst word = record { cut = cut_in inst (cut_of word); heuristic = heuristic_of word }
 
 -- the making of the sheet on a board
 unfoldable pub making_in : ProblemInstance → List ℕ → ℕ → List Insertion

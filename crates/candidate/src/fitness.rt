@@ -5,7 +5,7 @@ ghost use Rattle.std.proofs.Math.Option.{get_or};
 ghost use Rattle.std.specs.Float.{binary64};
 ghost use Rattle.lists.specs.Language.{option_of};
 ghost use Rattle.model.specs.Fitness.{weight, positive_zero};
-ghost use Rattle.candidate.specs.Areas.{share_of, board_areas, fitness_of, Inside};
+ghost use Rattle.candidate.specs.Areas.{share_of, board_areas, fitness_of, WithinBoards};
 
 // A sheet's placed area and its board's area.
 #[derive(Clone, Copy, Default)]
@@ -56,7 +56,7 @@ pub fn fitness(sheets: &[SheetAreas]) -> f64
 
 // The bits of that fitness: no NaN, where no sheet has more placed on it than its board's area.
 pub fn fitness_bits(sheets: &[SheetAreas]) -> u64
-    requires { (board_areas sheets.now ≤ 2 ^ 53) × Inside sheets.now }
+    requires { (board_areas sheets.now ≤ 2 ^ 53) × WithinBoards sheets.now }
     ensures { result ≡ to_bits binary64 (get_or (fitness_of sheets.now) positive_zero) }
 {
     f64::to_bits(fitness(sheets))

@@ -3,7 +3,7 @@
 #![tactic(auto)]
 
 ghost use Rattle.std.specs.Prelude.{◌≡◌, ◌+◌, ◌≤◌, ◌<◌, get_or, length};
-ghost use Rattle.candidate.specs.Entries.{heuristic_code, choice_of, split_of, rotation_of, heuristic_of, insertion_word, board_of, cut_of, row_of};
+ghost use Rattle.candidate.specs.Entries.{heuristic_code, choice_of, split_of, rotation_of, coded_heuristic, insertion_word, board_of, cut_of, heuristic_of};
 ghost use Rattle.candidate.specs.Moves.{new_words, moved_up, with_insertion, with_unused, take_place};
 ghost use Rattle.candidate.specs.Stands.{placed_words, unused_numbers};
 
@@ -71,8 +71,8 @@ fn rotation_of(code: u32) -> RotationPreference
     }
 }
 
-fn heuristic_of(code: u32) -> BaselineGuillotineHeuristic
-    ensures { result ≡ heuristic_of code }
+fn coded_heuristic(code: u32) -> BaselineGuillotineHeuristic
+    ensures { result ≡ coded_heuristic code }
 {
     BaselineGuillotineHeuristic {
         rect_choice: choice_of(code / 6),
@@ -102,10 +102,10 @@ pub fn cut_of(word: u32) -> u32
     word / 32 % 64
 }
 
-pub fn row_of(word: u32) -> BaselineGuillotineHeuristic
-    ensures { result ≡ row_of word }
+pub fn heuristic_of(word: u32) -> BaselineGuillotineHeuristic
+    ensures { result ≡ heuristic_of word }
 {
-    heuristic_of(word % 32)
+    coded_heuristic(word % 32)
 }
 
 // ---- boards and insertions

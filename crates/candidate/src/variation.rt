@@ -5,7 +5,7 @@ ghost use Rattle.std.specs.Prelude.{◌≡◌, ◌==◌, [], map, ◌≤◌, ◌
 ghost use Rattle.candidate.specs.Stands.{placed_words, unused_numbers, candidate_in, Stands};
 ghost use Rattle.candidate.specs.Entries.{cut_of};
 ghost use Rattle.candidate.specs.OnSheets.{IsBestDonor};
-ghost use Rattle.candidate.specs.Donated.{index_of, with_insertions, with_unused_cuts, donated, others_than, sheet_of};
+ghost use Rattle.candidate.specs.Donated.{place_among, with_insertions, with_unused_cuts, donated, others_than, sheet_of};
 ghost use Rattle.candidate.specs.Children.{IsChildOf};
 ghost use Rattle.candidate.specs.Compact.{put_back, apart, Compacted};
 
@@ -91,7 +91,7 @@ fn others_unused(c: &mut Candidate, cuts: usize)
 }
 
 // The index of a board, if it is there, by the library's search.
-fn index_of(boards: &[u32], board: u32) -> Option<usize>
+fn place_among(boards: &[u32], board: u32) -> Option<usize>
     ensures { result ≡ position (λ b. b == board) boards.now }
 {
     boards.iter().position(|b| *b == board)
@@ -101,10 +101,10 @@ fn index_of(boards: &[u32], board: u32) -> Option<usize>
 
 // The board before the other boards of the first parent, for the sheet that was made.
 fn child_sheet(left: &Candidate, made: &mut Candidate, board: u32)
-    requires { index_of board left.now.boards < 64 }
+    requires { place_among board left.now.boards < 64 }
     ensures { made.new ≡ sheet_of left.now made.old board }
 {
-    let from = index_of(&left.boards, board).unwrap();
+    let from = place_among(&left.boards, board).unwrap();
     made.boards = left.boards;
     crate::move_board(&mut made.boards, from, 0);
     made.sheets = 1;

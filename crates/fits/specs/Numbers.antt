@@ -2,5 +2,5 @@
 use Rattle.std.specs.Prelude.{ℕ, List, [], ◌∷◌}
 use Rattle.fits.specs.declared.choice.Score.{Score}
 
-abbrev pub numbers_of : Score → List ℕ
-numbers_of s = s.first ∷ s.second ∷ s.third ∷ s.y ∷ s.x ∷ []
+abbrev pub score_numbers : Score → List ℕ
+score_numbers s = s.first ∷ s.second ∷ s.third ∷ s.y ∷ s.x ∷ []

@@ -5,7 +5,7 @@ ghost use Rattle.std.specs.Prelude.{◌≡◌};
 ghost use Rattle.model.specs.Choice.{free_rect_choice_score};
 ghost use Rattle.model.specs.Split.{split_direction};
 ghost use Rattle.model.specs.declared.GuillotineSplitHeuristic.{GuillotineSplitHeuristic};
-ghost use Rattle.fits.specs.Numbers.{numbers_of};
+ghost use Rattle.fits.specs.Numbers.{score_numbers};
 
 use model::{Direction, GuillotineRectChoice, GuillotineSplitHeuristic, Rect};
 use words::numbers;
@@ -24,7 +24,7 @@ pub struct Score {
 
 #[tactic(auto, unfolding(model::specs::Choice::free_rect_choice_score, model::specs::Choice::area_waste, model::specs::Choice::short_side, model::specs::Choice::long_side))]
 pub fn free_rect_choice_score(free_rect: Rect, placed: Rect, choice: GuillotineRectChoice) -> Score
-    ensures { numbers_of result ≡ free_rect_choice_score free_rect placed choice }
+    ensures { score_numbers result ≡ free_rect_choice_score free_rect placed choice }
 {
     let whole = numbers::area(free_rect.width, free_rect.length);
     let part = numbers::area(placed.width, placed.length);

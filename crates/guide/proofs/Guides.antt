@@ -24,7 +24,7 @@ use Rattle.guide.specs.Nodes.{around, subtree_nodes, guide_nodes, tree_nodes}
 use Rattle.guide.proofs.subtree.Trees.{guide_nodes_some, guide_nodes_none, tree_nodes_leaf}
 use Rattle.guide.specs.Leaves.{is_free_leaf, size, Finds}
 use Rattle.guide.specs.Splices.{spliced}
-use Rattle.guide.specs.Guides.{Becomes, Replaces, split_guide, next_guide}
+use Rattle.guide.specs.Guides.{Becomes, ReplacesLeaf, split_guide, next_guide}
 use Rattle.guide.proofs.Outcomes.{Spliced, first_of, outcome}
 
 -- ---- a new guide
@@ -82,14 +82,14 @@ module _ (nodes : List Node) (target : Rect) (found : Language.Option ℕ) (ends
   pub found_below : (i : ℕ) → found ≡ Some i → i < length nodes
   found_below i e = rw e at ends.within
 
-  pub replaces_none : found ≡ None → (after : List Node) → after ≡ [] → (s : Subtree) → Replaces nodes after target s
+  pub replaces_none : found ≡ None → (after : List Node) → after ≡ [] → (s : Subtree) → ReplacesLeaf nodes after target s
   replaces_none e after empty s = record { replaced = λ node f. record { became = λ g h. empty ∙ sym (ap guide_nodes (go node g h) ∙ guide_nodes_none) } }
     where
       go : (node : SliceNode) (g : Option SliceNode) → nodes ≡ guide_nodes g → (g >>= λ tree. replace_free_leaf tree target node) ≡ none
       go node none h = refl
       go node (some t) h = replaced_none node t e h
 
-  pub replaces_at : (i : ℕ) (after : List Node) (s : Subtree) → found ≡ Some i → after ≡ spliced nodes i (subtree_nodes s) → Replaces nodes after target s
+  pub replaces_at : (i : ℕ) (after : List Node) (s : Subtree) → found ≡ Some i → after ≡ spliced nodes i (subtree_nodes s) → ReplacesLeaf nodes after target s
   replaces_at i after s e made = record { replaced = λ node f. record { became = go node f } }
     where
       go : (node : SliceNode) → tree_nodes node ≡ subtree_nodes s → (g : Option SliceNode) → nodes ≡ guide_nodes g → after ≡ guide_nodes (g >>= λ tree. replace_free_leaf tree target node)
@@ -108,7 +108,7 @@ module _ (nodes after : List Node) (d : Direction) (kerf : ℕ) (f p : Rect) (c 
   pub merged_none : (m : Bool) → m ≡ true → after ≡ [] → Becomes nodes after (next_guide m d kerf f p c)
   merged_none m e empty = record { became = λ g h. rw e (empty ∙ sym guide_nodes_none) }
 
-  pub split_becomes : (m : Bool) → m ≡ false → (s : Subtree) → subtree_nodes s ≡ guide_nodes (insert_subtree d kerf f p c) → Replaces nodes after f s → Becomes nodes after (next_guide m d kerf f p c)
+  pub split_becomes : (m : Bool) → m ≡ false → (s : Subtree) → subtree_nodes s ≡ guide_nodes (insert_subtree d kerf f p c) → ReplacesLeaf nodes after f s → Becomes nodes after (next_guide m d kerf f p c)
   unfolding split_guide
   split_becomes m e s q x = record { became = λ g h. rw e (go (insert_subtree d kerf f p c) q g h) }
     where

@@ -24,5 +24,5 @@ pub record Becomes (before after : List Node) (step : Option SliceNode → Optio
   pub became : (guide : Option SliceNode) → before ≡ guide_nodes guide → after ≡ guide_nodes (step guide)
 
 -- replace_free_leaf, with a subtree given by its nodes
-pub record Replaces (before after : List Node) (target : Rect) (subtree : Subtree) : Type 0 where
+pub record ReplacesLeaf (before after : List Node) (target : Rect) (subtree : Subtree) : Type 0 where
   pub replaced : (node : SliceNode) → tree_nodes node ≡ subtree_nodes subtree → Becomes before after (λ guide. guide >>= λ tree. replace_free_leaf tree target node)

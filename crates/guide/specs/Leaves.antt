@@ -18,26 +18,26 @@ abbrev pub size : SliceNode → ℕ
 size tree = length (tree_nodes tree)
 
 -- where a search stands: broken off at the leaf looked for, or past the nodes of a tree
-abbrev pub Found : Type 0
-Found = ControlFlow ℕ ℕ
+abbrev pub Reached : Type 0
+Reached = ControlFlow ℕ ℕ
 
-abbrev pub then_past : Found → (ℕ → Found) → Found
+abbrev pub then_past : Reached → (ℕ → Reached) → Reached
 then_past (Break i) next = Break i
 then_past (Continue j) next = next j
 
 -- in a tree whose root is the node of a number
-unfoldable pub leaf_from : Rect → ℕ → SliceNode → Found
+unfoldable pub leaf_from : Rect → ℕ → SliceNode → Reached
 leaf_from target at (cut c first second) = then_past (leaf_from target (at + 1) first) (λ next. leaf_from target next second)
 leaf_from target at (leaf r free) = if same_rect r target then Break at else Continue (at + 1)
 leaf_from target at (leaf r (cut_piece key)) = Continue (at + 1)
 
 -- never back to a number before the root's, and never a leaf where there is no node
-abbrev pub Onwards : List Node → ℕ → Found → Type 0
+abbrev pub Onwards : List Node → ℕ → Reached → Type 0
 Onwards nodes at (Break i) = i < length nodes
 Onwards nodes at (Continue j) = at ≤ j
 
 -- the search in whatever tree's nodes stand from its root's number on
-pub record Ends (nodes : List Node) (at : ℕ) (target : Rect) (found : Found) : Type 0 where
+pub record Searched (nodes : List Node) (at : ℕ) (target : Rect) (found : Reached) : Type 0 where
   pub onwards : Onwards nodes at found
   pub ends : (tree : SliceNode) (rest : List Node) → drop at nodes ≡ tree_nodes tree ++ rest → found ≡ leaf_from target at tree
 

@@ -1,7 +1,7 @@
 // The search for a free leaf among the nodes of a guide, which are in preorder: a cut before its first and its second child.
 
 ghost use Rattle.std.specs.Prelude.{◌≡◌};
-ghost use Rattle.guide.specs.Leaves.{is_free_leaf, Ends, Finds};
+ghost use Rattle.guide.specs.Leaves.{is_free_leaf, Searched, Finds};
 
 use super::subtree::Node;
 use model::Rect;
@@ -20,7 +20,7 @@ fn is_free_leaf(node: &Node, target: Rect) -> bool
 // In the tree whose root is node `at`, first child before second. The search breaks off at the leaf's number, or goes on with the number past the tree.
 // Children come after their parent, so that the node count minus the number falls. The nodes run out only where they are no tree's.
 pub fn free_leaf_from(nodes: &[Node], at: usize, target: Rect) -> ControlFlow<usize, usize>
-    ensures { Ends nodes.now at target result }
+    ensures { Searched nodes.now at target result }
 {
     let Some(node) = nodes.get(at) else {
         return ControlFlow::Continue(at);

@@ -5,7 +5,7 @@ ghost use Rattle.std.specs.Prelude.{◌≡◌, ◌+◌, ◌≤◌, ◌<◌, leng
 ghost use Rattle.std.proofs.Math.Option.{some};
 ghost use Rattle.model.specs.Guide.{leaf, free};
 ghost use Rattle.guide.specs.Nodes.{subtree_nodes, guide_nodes, InCorner};
-ghost use Rattle.guide.specs.Guides.{Becomes, Replaces, next_guide};
+ghost use Rattle.guide.specs.Guides.{Becomes, ReplacesLeaf, next_guide};
 
 pub mod subtree; // The nodes of a cutting guide, and the subtree that an insertion puts in the place of a free leaf
 mod free_leaf; // The search for a free leaf among the nodes of a guide, which are in preorder
@@ -28,7 +28,7 @@ pub fn new_guide<const N: usize>(guide: &mut ArrayVec<Node, N>, board: Rect)
 // The first such leaf's place becomes the subtree's root; where there is no such leaf, there is no guide.
 fn replace_free_leaf<const N: usize>(guide: &mut ArrayVec<Node, N>, target: Rect, subtree: Subtree)
     requires { length guide.old.items + length (subtree_nodes subtree) ≤ N + 1 }
-    ensures { Replaces guide.old.items guide.new.items target subtree }
+    ensures { ReplacesLeaf guide.old.items guide.new.items target subtree }
 {
     match free_leaf::find_free_leaf(guide.as_slice(), target) {
         Some(at) => splice::splice(guide, at, subtree),

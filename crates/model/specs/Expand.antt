@@ -3,7 +3,7 @@ use Prim.Native.Nat.{ℕ, zero, suc, ◌-◌, compare, Ordering}
 use Rattle.std.specs.Prelude.{List, map, eqb, length}
 use Rattle.lists.specs.Base.{then_with, range, concat_map, sort_by, swap}
 use Rattle.model.specs.Types.{StockInstance, CutInstance, InstanceKey, pattern_of, cut_key, no_key}
-use Rattle.model.specs.Project.{Piece, Project}
+use Rattle.model.specs.Project.{Record, Project}
 use Rattle.model.specs.TinyPrng.{next_state, index_of}
 
 -- ProblemInstance
@@ -23,11 +23,11 @@ compare_cut left right =
     then_with (compare right.width left.width) (then_with (compare right.length left.length)
     (then_with (compare left.cut_id right.cut_id) (compare left.instance right.instance)))
 
-unfoldable pub stock_instances : Piece → List StockInstance
+unfoldable pub stock_instances : Record → List StockInstance
 stock_instances p =
     map (λ n. record { stock_id = p.id; instance = n; width = p.width; length = p.length; pattern = pattern_of p.pattern }) (range p.quantity)
 
-unfoldable pub cut_instances : Piece → List CutInstance
+unfoldable pub cut_instances : Record → List CutInstance
 cut_instances p =
     map
     (λ n. record { cut_id = p.id; instance = n; width = p.width; length = p.length; pattern = pattern_of p.pattern; can_rotate = eqb p.flag 1 })

@@ -59,7 +59,7 @@ cuts_length bytes = length_of bytes cuts_entry
 -- ---- records
 
 -- StockPiece or CutPiece, its pattern still a code; `flag` is finite or can_rotate
-pub record Piece : Type 0 where
+pub record Record : Type 0 where
   pub id : ℕ
   pub width : ℕ
   pub length : ℕ
@@ -87,8 +87,8 @@ flag_field = 21
 abbrev pub spare_field : ℕ
 spare_field = 22
 
-unfoldable pub piece_at : List ℕ → ℕ → Piece
-piece_at bytes at =
+unfoldable pub read_record : List ℕ → ℕ → Record
+read_record bytes at =
     record {
       id = number bytes at 8;
       width = number bytes (at + width_field) 4;
@@ -100,8 +100,8 @@ piece_at bytes at =
     }
 
 -- the records of a body that starts at a place and has a length
-unfoldable pub pieces : List ℕ → ℕ → ℕ → List Piece
-pieces bytes at length = map (λ k. piece_at bytes (at + record_length * k)) (range (length / record_length))
+unfoldable pub read_records : List ℕ → ℕ → ℕ → List Record
+read_records bytes at length = map (λ k. read_record bytes (at + record_length * k)) (range (length / record_length))
 
 -- ---- the project
 
@@ -112,8 +112,8 @@ pub record Project : Type 0 where
   pub effort : ℕ
   pub unit : ℕ
   pub spare : ℕ
-  pub stock : List Piece
-  pub cuts : List Piece
+  pub stock : List Record
+  pub cuts : List Record
 
 abbrev pub kerf_at : ℕ
 kerf_at = settings_start
@@ -138,8 +138,8 @@ project_of bytes =
       effort = number bytes effort_at 1;
       unit = number bytes unit_at 1;
       spare = number bytes settings_spare_at 1;
-      stock = pieces bytes stock_start (stock_length bytes);
-      cuts = pieces bytes (cuts_start bytes) (cuts_length bytes);
+      stock = read_records bytes stock_start (stock_length bytes);
+      cuts = read_records bytes (cuts_start bytes) (cuts_length bytes);
     }
 
 -- ---- the shape of the file

@@ -3,9 +3,9 @@
 use Rattle.std.specs.Prelude.{ℕ, ◌+◌, Bool, not, ◌&&◌, ◌||◌, List, [], ◌∷◌, ◌++◌, map, ltb, eqb, if◌then◌else◌}
 use Rattle.std.proofs.Math.Option.{Option, none, some}
 use Rattle.lists.specs.Base.{◌<|>◌, sum, any, is_empty}
-use Rattle.model.specs.Project.{Piece, Project, project_of, well_formed}
+use Rattle.model.specs.Project.{Record, Project, project_of, well_formed}
 
--- a row of the table: a refusal's number, and whether its condition holds
+-- a check of the table: a refusal's number, and whether its condition holds
 abbrev pub Check : Type 0
 Check = ℕ × Bool
 
@@ -31,21 +31,21 @@ settings_checks p =
 
 -- ---- records
 
-abbrev pub zero_side : Piece → Bool
+abbrev pub zero_side : Record → Bool
 zero_side p = eqb p.width 0 || eqb p.length 0
 
-abbrev pub large_side : Piece → Bool
+abbrev pub large_side : Record → Bool
 large_side p = ltb most_side p.width || ltb most_side p.length
 
-abbrev pub bad_codes : Piece → Bool
+abbrev pub bad_codes : Record → Bool
 bad_codes p = ltb 2 p.pattern || ltb 1 p.flag || not (eqb p.spare 0)
 
-abbrev pub unlimited : Piece → Bool
+abbrev pub unlimited : Record → Bool
 unlimited p = eqb p.flag 0
 
--- a record's rows, given the ids of the records of its kind before it and the sum of their quantities
+-- a record's checks, given the ids of the records of its kind before it and the sum of their quantities
 abbrev pub RecordRule : Type 0
-RecordRule = List ℕ → ℕ → Piece → List Check
+RecordRule = List ℕ → ℕ → Record → List Check
 
 unfoldable pub stock_rule : RecordRule
 stock_rule seen count p =
@@ -67,14 +67,14 @@ cut_rule seen count p =
     ∷ (12, ltb most_instances (count + p.quantity))
     ∷ []
 
--- the rows of all records of a kind, in file order
-unfoldable pub record_checks : RecordRule → List ℕ → ℕ → List Piece → List Check
+-- the checks of all records of a kind, in file order
+unfoldable pub record_checks : RecordRule → List ℕ → ℕ → List Record → List Check
 record_checks rule seen count [] = []
 record_checks rule seen count (p ∷ ps) = rule seen count p ++ record_checks rule (p.id ∷ seen) (count + p.quantity) ps
 
 -- ---- after all records
 
-abbrev pub total_quantity : List Piece → ℕ
+abbrev pub total_quantity : List Record → ℕ
 total_quantity ps = sum (map (λ p. p.quantity) ps)
 
 unfoldable pub whole_checks : Project → List Check

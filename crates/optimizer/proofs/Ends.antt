@@ -28,7 +28,7 @@ use Rattle.trust.specs.Trusted.{Trusted}
 use Rattle.trust.proofs.PopulationSize.{source_within}
 use Rattle.model.specs.declared.OptimizerEffort.{OptimizerEffort}
 use Rattle.search.specs.declared.seeds.SearchNumbers.{SearchNumbers as SearchNumbersIn}
-use Rattle.search.specs.Rows.{numbers_of}
+use Rattle.search.specs.Numbers.{numbers_of}
 use Rattle.search.specs.Regions.{behind_slots}
 use Rattle.plan.specs.Sheets.{candidate_plan}
 use Rattle.std.specs.Prelude.{Result, Ok, Err}

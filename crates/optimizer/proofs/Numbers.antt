@@ -12,7 +12,7 @@ use Rattle.model.specs.declared.LayoutKind.{LayoutKind}
 use Rattle.model.specs.Types.{layout_of, effort_of}
 use Rattle.model.specs.Fitness.{one}
 use Rattle.model.specs.Candidate.{Candidate}
-use Rattle.model.specs.Project.{Piece, Project, project_of, well_formed}
+use Rattle.model.specs.Project.{Record, Project, project_of, well_formed}
 use Rattle.model.specs.Refusal.{Check, RecordRule, first_that_applies, file_refusal, file_checks, project_checks, settings_checks, record_checks, stock_rule, cut_rule, whole_checks}
 use Rattle.model.specs.Expand.{ProblemInstance, expand_project}
 use Rattle.model.specs.Search.{SearchNumbers, search_numbers, heuristic_variants, winner}
@@ -35,10 +35,10 @@ Numbered (refused n) = Number n
 
 -- ---- the tables of checks
 
-abbrev Rows : List Check → Type 0
-Rows cs = All (λ (c : Check). Number c.0) cs
+abbrev Numbers : List Check → Type 0
+Numbers cs = All (λ (c : Check). Number c.0) cs
 
-first_number : (cs : List Check) (n : ℕ) → Rows cs → first_that_applies cs ≡ some n → Number n
+first_number : (cs : List Check) (n : ℕ) → Numbers cs → first_that_applies cs ≡ some n → Number n
 unfolding first_that_applies
 first_number [] n h e = absurd (none-ne-some n e)
 first_number (c ∷ cs) n h e = go c.1 (first_number cs n h.1) e
@@ -47,46 +47,46 @@ first_number (c ∷ cs) n h e = go c.1 (first_number cs n h.1) e
     go true rest k = subst Number (some-injective _ _ k) h.0
     go false rest k = rest k
 
-record_rows : (rule : RecordRule) → ((seen : List ℕ) (count : ℕ) (p : Piece) → Rows (rule seen count p))
-    → (seen : List ℕ) (count : ℕ) (ps : List Piece) → Rows (record_checks rule seen count ps)
+record_numbers : (rule : RecordRule) → ((seen : List ℕ) (count : ℕ) (p : Record) → Numbers (rule seen count p))
+    → (seen : List ℕ) (count : ℕ) (ps : List Record) → Numbers (record_checks rule seen count ps)
 unfolding record_checks
-record_rows rule h seen count [] = tt
-record_rows rule h seen count (p ∷ ps) =
+record_numbers rule h seen count [] = tt
+record_numbers rule h seen count (p ∷ ps) =
     all_append _ (rule seen count p) (record_checks rule (p.id ∷ seen) (count + p.quantity) ps) (h seen count p)
-    (record_rows rule h (p.id ∷ seen) (count + p.quantity) ps)
+    (record_numbers rule h (p.id ∷ seen) (count + p.quantity) ps)
 
-stock_rows : (seen : List ℕ) (count : ℕ) (p : Piece) → Rows (stock_rule seen count p)
+stock_numbers : (seen : List ℕ) (count : ℕ) (p : Record) → Numbers (stock_rule seen count p)
 unfolding stock_rule
-stock_rows seen count p = (tt, (tt, (tt, (tt, (tt, (tt, tt))))))
+stock_numbers seen count p = (tt, (tt, (tt, (tt, (tt, (tt, tt))))))
 
-cut_rows : (seen : List ℕ) (count : ℕ) (p : Piece) → Rows (cut_rule seen count p)
+cut_numbers : (seen : List ℕ) (count : ℕ) (p : Record) → Numbers (cut_rule seen count p)
 unfolding cut_rule
-cut_rows seen count p = (tt, (tt, (tt, (tt, (tt, (tt, tt))))))
+cut_numbers seen count p = (tt, (tt, (tt, (tt, (tt, (tt, tt))))))
 
-project_rows : (p : Project) → Rows (project_checks p)
+project_numbers : (p : Project) → Numbers (project_checks p)
 unfolding project_checks settings_checks whole_checks
-project_rows p = (
+project_numbers p = (
   tt,
   (
     tt,
-    all_append _ (record_checks stock_rule [] 0 p.stock) (record_checks cut_rule [] 0 p.cuts ++ whole_checks p) (record_rows stock_rule stock_rows [] 0 p.stock)
-        (all_append _ (record_checks cut_rule [] 0 p.cuts) (whole_checks p) (record_rows cut_rule cut_rows [] 0 p.cuts) (tt, (tt, tt))),
+    all_append _ (record_checks stock_rule [] 0 p.stock) (record_checks cut_rule [] 0 p.cuts ++ whole_checks p) (record_numbers stock_rule stock_numbers [] 0 p.stock)
+        (all_append _ (record_checks cut_rule [] 0 p.cuts) (whole_checks p) (record_numbers cut_rule cut_numbers [] 0 p.cuts) (tt, (tt, tt))),
   ),
 )
 
-file_rows : (f : List ℕ) → Rows (file_checks f)
+file_numbers : (f : List ℕ) → Numbers (file_checks f)
 unfolding file_checks
-file_rows f = (tt, go (well_formed f))
+file_numbers f = (tt, go (well_formed f))
   where
-    go : (b : Bool) → Rows (if b then project_checks (project_of f) else [])
-    go true = project_rows (project_of f)
+    go : (b : Bool) → Numbers (if b then project_checks (project_of f) else [])
+    go true = project_numbers (project_of f)
     go false = tt
 
 -- ---- every answer
 
 file_number : (f : List ℕ) (n : ℕ) → file_refusal f ≡ some n → Number n
 unfolding file_refusal
-file_number f n e = first_number (file_checks f) n (file_rows f) e
+file_number f n e = first_number (file_checks f) n (file_numbers f) e
 
 prefilter_number : (inst : ProblemInstance) (n : ℕ) → prefilter inst ≡ some n → Number n
 unfolding prefilter

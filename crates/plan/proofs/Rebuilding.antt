@@ -19,13 +19,13 @@ use Rattle.trust.proofs.Bounded.{placed_most}
 use Rattle.trust.proofs.CandidateSize.{candidate_counts}
 use Rattle.trust.proofs.Proper.{SheetProper}
 use Rattle.trust.proofs.PlanSize.{counted, plan_most}
-use Rattle.candidate.specs.Areas.{areas_of, board_areas, Inside}
+use Rattle.candidate.specs.Areas.{areas_of, board_areas, WithinBoards}
 use Rattle.candidate.proofs.fitness.Sheets.{board_area, inside_areas, used_stock_area_areas}
 use Rattle.candidate.specs.declared.Candidate.{Candidate as Words}
 use Rattle.candidate.specs.Entries.{cut_of}
 use Rattle.candidate.specs.Stands.{Stands, bin_in, sheet_boards, placed_words, unused_numbers, candidate_in}
 use Rattle.candidate.proofs.Standing.{boards_below, length_all_boards, length_sheets, few_placed, RebuiltOn}
-use Rattle.plan.specs.Replaying.{Rebuildable}
+use Rattle.plan.specs.Replaying.{Replayable}
 
 module _ (inst : ProblemInstance) (r : Ranged inst) (k : Words) (st : Stands inst [] k) where
   abbrev bins : List GuillotineSheet
@@ -54,7 +54,7 @@ module _ (inst : ProblemInstance) (r : Ranged inst) (k : Words) (st : Stands ins
         rw (get_or-take (length inst.stock) k.boards j 0 (omega (arith, st.sheets))) at
         (all_get (λ b. b < length inst.stock) all j 0 (boards_below inst [] k st r) (omega (arith, length_all_boards inst [] k st r, st.sheets)))
 
-    pub rebuildable : Rebuildable inst (placed_words k) board
+    pub rebuildable : Replayable inst (placed_words k) board
     rebuildable =
         record {
           few = omega (arith, few_placed inst [] k st r);
@@ -71,7 +71,7 @@ module _ (inst : ProblemInstance) (r : Ranged inst) (k : Words) (st : Stands ins
       let c = candidate_counts inst r [] (candidate_in inst k) st.proper in
       omega (arith, plan_most layout f bins (counted inst.kerf_width bins st.proper.kept.sheets), c.pieces, c.sheets, r.few_panels)
 
-  pub inside : Inside (map areas_of bins)
+  pub inside : WithinBoards (map areas_of bins)
   inside =
       inside_areas bins
       (all_map (SheetProper inst.kerf_width) (λ b. placed_area b ≤ board_area b) (λ b h. placed_most inst.kerf_width b h.bounded.layout) bins st.proper.kept.sheets)

@@ -21,7 +21,7 @@ use Rattle.model.specs.Plan.{sheet_words}
 use Rattle.trust.proofs.Ranges.{Ranged}
 use Rattle.trust.proofs.PlanSize.{body_words, plan_length}
 use Rattle.candidate.specs.declared.fitness.SheetAreas.{SheetAreas}
-use Rattle.candidate.specs.Areas.{board_areas, fitness_of, Inside}
+use Rattle.candidate.specs.Areas.{board_areas, fitness_of, WithinBoards}
 use Rattle.candidate.specs.declared.Candidate.{Candidate as Words}
 use Rattle.candidate.specs.Stands.{Stands, bin_in, sheet_boards, placed_words, candidate_in}
 use Rattle.candidate.proofs.Standing.{length_sheets}
@@ -96,7 +96,7 @@ module _ (inst : ProblemInstance) (r : Ranged inst) (k : Words) (st : Stands ins
   -- ---- the whole plan
 
   module _ (before plan : List ℕ) (b : Bodies) (so : WritesSheets bins before plan b) where
-    pub areas_held : (board_areas b.areas.items ≤ 2 ^ 53) × Inside b.areas.items
+    pub areas_held : (board_areas b.areas.items ≤ 2 ^ 53) × WithinBoards b.areas.items
     areas_held = (rw so.noted (areas_most inst r k st), rw so.noted (inside inst r k st))
 
     pub plan_written : (plan₁ : List ℕ) (bits low high : ℕ) → bits ≡ to_bits binary64 (Option.get_or (fitness_of b.areas.items) positive_zero)

@@ -1,3 +1,3 @@
 -- Laws that belong to no one function.
 pub mod Parts
-pub mod Rows
+pub mod Written

@@ -1,6 +1,6 @@
 -- plan
 pub mod Sheets
 -- plan_words
-pub mod Rows
+pub mod Heads
 -- sheet_plan
 pub mod Replaying

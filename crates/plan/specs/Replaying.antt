@@ -29,7 +29,7 @@ use Rattle.candidate.specs.Stands.{making_in, bin_in}
 use Rattle.project.specs.Problem.{board_in}
 use Rattle.plan.specs.declared.sheet_plan.Progress.{Progress}
 use Rattle.plan.specs.declared.sheet_plan.Body.{Body}
-use Rattle.plan.specs.Rows.{piece}
+use Rattle.plan.specs.Heads.{piece}
 
 -- the words of the pieces that a sheet has behind those of an earlier state
 unfoldable pub new_pieces : GuillotineSheet → GuillotineSheet → List ℕ
@@ -51,7 +51,7 @@ pub record Boardable (kerf : ℕ) (stock : StockInstance) : Type 0 where
   pub board : BoardRange stock
 
 -- insertions of which those on a board make its sheet
-pub record Rebuildable (inst : ProblemInstance) (words : List ℕ) (board : ℕ) : Type 0 where
+pub record Replayable (inst : ProblemInstance) (words : List ℕ) (board : ℕ) : Type 0 where
   pub few : length words ≤ 64
   pub known : board < length inst.stock
   pub cuts : All (λ w. cut_of w < length inst.cuts) words

@@ -6,7 +6,7 @@ ghost use Rattle.lists.specs.Parts.{patch};
 ghost use Rattle.model.specs.declared.BaselineGuillotineHeuristic.{BaselineGuillotineHeuristic as Heuristic};
 ghost use Rattle.model.specs.Plan.{rect_words, piece_words};
 ghost use Rattle.guide.specs.Nodes.{words_of};
-ghost use Rattle.plan.specs.Rows.{piece, head_words};
+ghost use Rattle.plan.specs.Heads.{piece, head_words};
 
 use guide::subtree::Node;
 use model::{CutInstance, FitResult, Rect, StockInstance};

@@ -5,7 +5,7 @@ ghost use Rattle.std.specs.Prelude.{◌≡◌, ◌+◌, ◌*◌, ◌≤◌, ◌<
 ghost use Rattle.model.specs.Sheet.{new_sheet};
 ghost use Rattle.model.specs.Plan.{sheet_words};
 ghost use Rattle.candidate.specs.Stands.{bin_in};
-ghost use Rattle.plan.specs.Replaying.{Replayed, Boardable, Rebuildable, Takeable, Takes, ReplaysWord, ReplaysSheet, WritesSheet, Finishable, Finishes};
+ghost use Rattle.plan.specs.Replaying.{Replayed, Boardable, Replayable, Takeable, Takes, ReplaysWord, ReplaysSheet, WritesSheet, Finishable, Finishes};
 
 use super::plan_words;
 use candidate::fitness::SheetAreas;
@@ -90,7 +90,7 @@ fn replay_word(
     i: usize,
     p: Progress,
 ) -> Progress
-    requires { Rebuildable inst.now insertions.now board × (i < length insertions.now)
+    requires { Replayable inst.now insertions.now board × (i < length insertions.now)
         × Replayed inst.now.kerf_width (bin_in inst.now (take i insertions.now) board) free.old guide.old.items p
         × (9 * length (bin_in inst.now insertions.now board).placed_pieces ≤ length pieces.old) }
     ensures { ReplaysWord inst.now insertions.now board i pieces.old pieces.new free.new guide.new.items result }
@@ -102,7 +102,7 @@ fn replay_word(
     let kerf_width = inst.kerf_width();
     let s = inst.board(board as usize);
     let cut = inst.cut(candidate::cut_of(word) as usize);
-    let h = candidate::row_of(word);
+    let h = candidate::heuristic_of(word);
     match sheet::try_insert(free, kerf_width, s.pattern, cut, h) {
         None => p,
         Some(inserted) => take_piece(pieces, guide, kerf_width, cut, h, inserted, p),
@@ -118,7 +118,7 @@ fn replay_sheet(
     insertions: &[u32],
     board: u32,
 ) -> Progress
-    requires { Rebuildable inst.now insertions.now board
+    requires { Replayable inst.now insertions.now board
         × (9 * length (bin_in inst.now insertions.now board).placed_pieces ≤ length pieces.old) }
     ensures { ReplaysSheet inst.now.kerf_width (bin_in inst.now insertions.now board) pieces.old pieces.new free.new guide.new.items result }
 {
@@ -186,7 +186,7 @@ pub fn write_sheet(
     insertions: &[u32],
     board: u32,
 ) -> Body
-    requires { Rebuildable inst.now insertions.now board
+    requires { Replayable inst.now insertions.now board
         × (length (sheet_words (bin_in inst.now insertions.now board)) ≤ length part.old) }
     ensures { WritesSheet (bin_in inst.now insertions.now board) part.old part.new result }
 {

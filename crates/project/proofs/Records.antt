@@ -7,7 +7,7 @@ use lib.ListN.{length, take, drop, length-drop}
 use lib.Seq.{drop-drop, length-take-le}
 use Rattle.lists.specs.Base.{sum, count_from}
 use Rattle.lists.proofs.Parts.{part_take}
-use Rattle.model.specs.Project.{Piece, little_endian, number, piece_at, pieces, record_length}
+use Rattle.model.specs.Project.{Record, little_endian, number, read_record, read_records, record_length}
 use Rattle.model.specs.Refusal.{total_quantity}
 use Rattle.project.specs.Records.{record_at, records_from, records}
 
@@ -24,8 +24,8 @@ module _ (bytes : List ℕ) (at size : ℕ) where
   field_in : (p f n : ℕ) → p + f + n ≤ size → number body (p + f) n ≡ number bytes (at + p + f) n
   field_in p f n h = let e : at + (p + f) ≡ at + p + f = omega arith in number_in (p + f) n h ∙ ap (λ (q : ℕ). number bytes q n) e
 
-  piece_in : (p : ℕ) → p + record_length ≤ size → piece_at body p ≡ piece_at bytes (at + p)
-  unfolding piece_at
+  piece_in : (p : ℕ) → p + record_length ≤ size → read_record body p ≡ read_record bytes (at + p)
+  unfolding read_record
   piece_in p h = λ j. record {
     id = number_in p 8 (omega arith) j;
     width = field_in p 8 4 (omega arith) j;
@@ -36,13 +36,13 @@ module _ (bytes : List ℕ) (at size : ℕ) where
     spare = field_in p 22 2 (omega arith) j;
   }
 
-  pieces_from : (i n : ℕ) → record_length * (i + n) ≤ size → records_from body i n ≡ map (λ k. piece_at bytes (at + record_length * k)) (count_from i n)
+  pieces_from : (i n : ℕ) → record_length * (i + n) ≤ size → records_from body i n ≡ map (λ k. read_record bytes (at + record_length * k)) (count_from i n)
   unfolding count_from
   pieces_from i zero h = refl
   pieces_from i (suc n) h = λ j. piece_in (record_length * i) (omega arith) j ∷ pieces_from (suc i) n (omega arith) j
 
-  pub records_in : at + size ≤ length bytes → records body ≡ pieces bytes at size
-  unfolding pieces
+  pub records_in : at + size ≤ length bytes → records body ≡ read_records bytes at size
+  unfolding read_records
   records_in h =
       let long : length body ≡ size = length-take-le size (drop at bytes) (omega (arith, length-drop at bytes)) in
       ap (λ (n : ℕ). records_from body 0 (n / record_length)) long ∙ pieces_from 0 (size / record_length) (omega arith)
@@ -51,7 +51,7 @@ module _ (bytes : List ℕ) (at size : ℕ) where
 
 module _ (body : List ℕ) where
   -- what is left from number i on
-  abbrev pub left : ℕ → List Piece
+  abbrev pub left : ℕ → List Record
   left i = records_from body i (length body / record_length - i)
 
   pub left_all : left 0 ≡ records body
@@ -74,9 +74,9 @@ module _ (body : List ℕ) where
   record_inside i h = omega arith
 
   -- the sum of what is left
-  pub total_next : (i : ℕ) (p : Piece) → i < length body / record_length → p ≡ record_at body i → total_quantity (left i) ≡ p.quantity + total_quantity (left (i + 1))
+  pub total_next : (i : ℕ) (p : Record) → i < length body / record_length → p ≡ record_at body i → total_quantity (left i) ≡ p.quantity + total_quantity (left (i + 1))
   unfolding sum
-  total_next i p h e = ap total_quantity (left_next i h) ∙ ap (λ (q : Piece). q.quantity + total_quantity (left (i + 1))) (sym e)
+  total_next i p h e = ap total_quantity (left_next i h) ∙ ap (λ (q : Record). q.quantity + total_quantity (left (i + 1))) (sym e)
 
   pub total_none : (i : ℕ) → length body / record_length ≤ i → total_quantity (left i) ≡ 0
   unfolding sum

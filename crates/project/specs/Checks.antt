@@ -15,7 +15,7 @@ first_given [] = none
 first_given (None ∷ checks) = first_given checks
 first_given (Some r ∷ checks) = some (refusal_number r)
 
--- the rows of a record of a kind
+-- the checks of a record of a kind
 abbrev pub rule_of : Kind → RecordRule
 rule_of Kind.Stock = stock_rule
 rule_of Kind.Cut = cut_rule

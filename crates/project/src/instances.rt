@@ -3,16 +3,16 @@
 ghost use Rattle.std.specs.Prelude.{◌≡◌, ℕ, ◌+◌, ◌≤◌, ◌++◌, length};
 ghost use Rattle.lists.specs.Base.{concat_map, sort_by};
 ghost use Rattle.model.specs.Types.{pattern_of};
-ghost use Rattle.model.specs.Project.{Piece, project_of};
+ghost use Rattle.model.specs.Project.{Record, project_of};
 ghost use Rattle.model.specs.Refusal.{total_quantity};
 ghost use Rattle.model.specs.Expand.{compare_stock, expand_project};
-ghost use Rattle.project.specs.Records.{piece_of, records};
-ghost use Rattle.project.specs.declared.RawPiece.{RawPiece};
+ghost use Rattle.project.specs.Records.{record_of, records};
+ghost use Rattle.project.specs.declared.RawRecord.{RawRecord};
 ghost use Rattle.project.specs.Instances.{stock_instance, cut_instance, made_of};
 
 use super::orders;
 use super::refusals::CheckedFile;
-use crate::RawPiece;
+use crate::RawRecord;
 use arrayvec::ArrayVec;
 use model::{CutInstance, PatternDirection, StockInstance};
 
@@ -29,8 +29,8 @@ fn pattern_of(code: u32) -> PatternDirection
 }
 
 // Instance n of a record of boards.
-fn stock_instance(p: RawPiece, n: u32) -> StockInstance
-    ensures { result ≡ stock_instance (piece_of p) n }
+fn stock_instance(p: RawRecord, n: u32) -> StockInstance
+    ensures { result ≡ stock_instance (record_of p) n }
 {
     StockInstance {
         stock_id: p.id,
@@ -42,8 +42,8 @@ fn stock_instance(p: RawPiece, n: u32) -> StockInstance
 }
 
 // Instance n of a record of cuts.
-fn cut_instance(p: RawPiece, n: u32) -> CutInstance
-    ensures { result ≡ cut_instance (piece_of p) n }
+fn cut_instance(p: RawRecord, n: u32) -> CutInstance
+    ensures { result ≡ cut_instance (record_of p) n }
 {
     CutInstance {
         cut_id: p.id,
@@ -56,16 +56,16 @@ fn cut_instance(p: RawPiece, n: u32) -> CutInstance
 }
 
 // The instances of a record, behind those before.
-fn push_instances<T: Drop, F: Fn(RawPiece, u32) -> T>(
+fn push_instances<T: Drop, F: Fn(RawRecord, u32) -> T>(
     instances: &mut ArrayVec<T, 64>,
-    p: RawPiece,
+    p: RawRecord,
     make: &F,
 )
-    ghost made: { Piece → ℕ → T }
+    ghost made: { Record → ℕ → T }
     requires room { length instances.old.items + p.quantity ≤ 64 }
-    requires callable { (p : RawPiece) (n : ℕ) → F.pre make.now p n }
-    requires makes { (p : RawPiece) (n : ℕ) (t : T) → F.post make.now p n t → t ≡ made (piece_of p) n }
-    ensures { instances.new.items ≡ instances.old.items ++ made_of made (piece_of p) }
+    requires callable { (p : RawRecord) (n : ℕ) → F.pre make.now p n }
+    requires makes { (p : RawRecord) (n : ℕ) (t : T) → F.post make.now p n t → t ≡ made (record_of p) n }
+    ensures { instances.new.items ≡ instances.old.items ++ made_of made (record_of p) }
 {
     for n in 0..p.quantity {
         instances.push(make(p, n));
@@ -73,11 +73,11 @@ fn push_instances<T: Drop, F: Fn(RawPiece, u32) -> T>(
 }
 
 // The instances of a body's records, in file order.
-fn instances<T: Default + Drop, F: Fn(RawPiece, u32) -> T>(body: &[u8], make: F) -> ArrayVec<T, 64>
-    ghost made: { Piece → ℕ → T }
+fn instances<T: Default + Drop, F: Fn(RawRecord, u32) -> T>(body: &[u8], make: F) -> ArrayVec<T, 64>
+    ghost made: { Record → ℕ → T }
     requires few { total_quantity (records body.now) ≤ 64 }
-    requires callable { (p : RawPiece) (n : ℕ) → F.pre make p n }
-    requires makes { (p : RawPiece) (n : ℕ) (t : T) → F.post make p n t → t ≡ made (piece_of p) n }
+    requires callable { (p : RawRecord) (n : ℕ) → F.pre make p n }
+    requires makes { (p : RawRecord) (n : ℕ) (t : T) → F.post make p n t → t ≡ made (record_of p) n }
     ensures { result.items ≡ concat_map (made_of made) (records body.now) }
 {
     let mut instances = ArrayVec::new();

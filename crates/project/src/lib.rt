@@ -7,7 +7,7 @@ ghost use Rattle.model.specs.Types.{layout_of, effort_of};
 ghost use Rattle.model.specs.Project.{project_of, body_length, well_formed, record_length, most_records};
 ghost use Rattle.model.specs.Refusal.{total_quantity};
 ghost use Rattle.project.specs.Refusals.{refusal_number};
-ghost use Rattle.project.specs.Records.{piece_of, record_at, records};
+ghost use Rattle.project.specs.Records.{record_of, record_at, records};
 
 pub mod refusals; // The checks that refuse a project file, in the order of the refusals' numbers, 2 to 14
 pub mod problem; // The problem of a search
@@ -91,7 +91,7 @@ pub enum Kind {
 // A stock or cut record as it stands in the file; `flag` is finite or can_rotate. Its codes stay numbers: the checks are about numbers that
 // no enum has.
 #[derive(Clone, Copy)]
-pub struct RawPiece {
+pub struct RawRecord {
     pub id: u64,
     pub width: u32,
     pub length: u32,
@@ -108,12 +108,12 @@ pub fn record_count(body: &[u8]) -> usize
 }
 
 // Record i of a body, by its number as in the definition: checks and instances count records.
-pub fn record_at(body: &[u8], i: usize) -> RawPiece
+pub fn record_at(body: &[u8], i: usize) -> RawRecord
     requires { record_length * i + record_length ≤ length body.now }
-    ensures { piece_of result ≡ record_at body.now i }
+    ensures { record_of result ≡ record_at body.now i }
 {
     let at = RECORD_LENGTH * i;
-    RawPiece {
+    RawRecord {
         id: numbers::number_8(body, at),
         width: numbers::number_4(body, at + 8),
         length: numbers::number_4(body, at + 12),

@@ -4,11 +4,11 @@ ghost use Rattle.std.specs.Prelude.{◌≡◌, ◌&&◌, ◌||◌, not, [], ◌+
 ghost use Rattle.lists.specs.Base.{any};
 ghost use Rattle.model.specs.Project.{project_of, record_length, most_records};
 ghost use Rattle.model.specs.Refusal.{bad_codes, zero_side, large_side, unlimited, first_that_applies, settings_checks, record_checks, whole_checks, project_checks, file_refusal};
-ghost use Rattle.project.specs.Records.{piece_of, record_at, records};
+ghost use Rattle.project.specs.Records.{record_of, record_at, records};
 ghost use Rattle.project.specs.Refusals.{refusal_of};
 ghost use Rattle.project.specs.Checks.{first_given, rule_of, bad_settings, ids_before, Checked};
 
-use crate::{Kind, ProjectFile, RawPiece, Refusal};
+use crate::{Kind, ProjectFile, RawRecord, Refusal};
 use std::marker::Model;
 
 // The largest side and kerf, and the most instances of a kind.
@@ -31,27 +31,27 @@ fn first_that_applies(checks: &[Option<Refusal>]) -> Result<(), Refusal>
 
 // ---- a record
 
-fn bad_codes(p: RawPiece) -> bool
-    ensures { result ≡ bad_codes (piece_of p) }
+fn bad_codes(p: RawRecord) -> bool
+    ensures { result ≡ bad_codes (record_of p) }
 {
     p.pattern > 2 || p.flag > 1 || p.spare != 0
 }
 
 // A stock record that is unlimited has no quantity.
-fn bad_stock_codes(p: RawPiece) -> bool
-    ensures { result ≡ (bad_codes (piece_of p) || (unlimited (piece_of p) && not (eqb p.quantity 0))) }
+fn bad_stock_codes(p: RawRecord) -> bool
+    ensures { result ≡ (bad_codes (record_of p) || (unlimited (record_of p) && not (eqb p.quantity 0))) }
 {
     bad_codes(p) || (p.flag == 0 && p.quantity != 0)
 }
 
-fn zero_side(p: RawPiece) -> bool
-    ensures { result ≡ zero_side (piece_of p) }
+fn zero_side(p: RawRecord) -> bool
+    ensures { result ≡ zero_side (record_of p) }
 {
     p.width == 0 || p.length == 0
 }
 
-fn large_side(p: RawPiece) -> bool
-    ensures { result ≡ large_side (piece_of p) }
+fn large_side(p: RawRecord) -> bool
+    ensures { result ≡ large_side (record_of p) }
 {
     p.width > MOST_SIDE || p.length > MOST_SIDE
 }

@@ -34,7 +34,7 @@ use Rattle.candidate.specs.Placing.{PlacesCuts}
 use Rattle.search.specs.declared.seeds.CandidateSeed.{CandidateSeed}
 use Rattle.search.specs.Seeds.{seed_in, InOrder, no_seed, IsSeed}
 use Rattle.search.specs.Slots.{slot_words, store_in}
-use Rattle.search.specs.Populations.{Holds, OnlySlots}
+use Rattle.search.specs.Populations.{Stores, OnlySlots}
 use Rattle.search.proofs.stored.Populations.{only_none, population_none, standing_none}
 use Rattle.search.specs.Improved.{FromSeed}
 use Rattle.search.proofs.Passes.{pushed_holds, pushed_within}
@@ -106,7 +106,7 @@ in_order inst order e s =
 
 -- the first k are stored
 pub record StoredTo (rows : List BaselineGuillotineHeuristic) (inst : ProblemInstance) (n : SearchNumbers) (before : List ℕ) (k : ℕ) (ws : List ℕ) : Type 0 where
-  pub holds : Holds inst ws 0 k (first_ones rows inst n k)
+  pub holds : Stores inst ws 0 k (first_ones rows inst n k)
   pub only : OnlySlots 0 48 before ws
 
 module _ (rows : List BaselineGuillotineHeuristic) (inst : ProblemInstance) (n : SearchNumbers) where
@@ -120,6 +120,6 @@ module _ (rows : List BaselineGuillotineHeuristic) (inst : ProblemInstance) (n :
       let at : after ≡ store_in ws (0 + k) c = e ∙ ap (λ (slot : ℕ). store_in ws slot c) z in
       let fits : slot_words * (0 + k) + slot_words ≤ length ws = omega arith in
       record {
-        holds = subst (Holds inst after 0 (k + 1)) (sym (firsts_more rows inst n k seed c h s f)) (pushed_holds inst ws after 0 k c f.stands fits few at (first_ones rows inst n k) st.holds);
+        holds = subst (Stores inst after 0 (k + 1)) (sym (firsts_more rows inst n k seed c h s f)) (pushed_holds inst ws after 0 k c f.stands fits few at (first_ones rows inst n k) st.holds);
         only = pushed_within inst ws after 0 k c f.stands fits few at before 0 48 (omega arith) (omega arith) st.only;
       }

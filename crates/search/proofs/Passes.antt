@@ -21,7 +21,7 @@ use Rattle.project.specs.Problem.{board_in}
 use Rattle.candidate.specs.Bins.{ShowsBin, Shown}
 use Rattle.candidate.specs.Compact.{SameSheet, Compacted}
 use Rattle.search.specs.Slots.{slot_words, store_in}
-use Rattle.search.specs.Populations.{words_at, StandsAt, candidate_at, population_in, AllStand, Holds, OnlySlots}
+use Rattle.search.specs.Populations.{words_at, StandsAt, candidate_at, population_in, AllStand, Stores, OnlySlots}
 use Rattle.search.proofs.stored.Populations.{slot_kept, only_wider, only_none, only_then, same_slot, stands_as, standing_at, population_none, standing_none, population_snoc, pushed_only, pushed_population, pushed_stands}
 use Rattle.search.specs.Improved.{improved, Improves}
 
@@ -52,7 +52,7 @@ passes_are inst h (c ∷ population) =
 -- a store behind the last candidate
 module _ (inst : ProblemInstance) (ws after : List ℕ) (base n : ℕ) (c : Words) (h : Stands inst [] c) (room : slot_words * (base + n) + slot_words ≤ length ws) (few : length inst.cuts ≤ 64)
     (e : after ≡ store_in ws (base + n) c) where
-  pub pushed_holds : (cs : List Candidate) → Holds inst ws base n cs → Holds inst after base (n + 1) (cs ++ (candidate_in inst c ∷ []))
+  pub pushed_holds : (cs : List Candidate) → Stores inst ws base n cs → Stores inst after base (n + 1) (cs ++ (candidate_in inst c ∷ []))
   pushed_holds cs k =
       record {
         is = pushed_population inst ws after base n c h room few e ∙ ap (λ (l : List Candidate). l ++ (candidate_in inst c ∷ [])) k.is;
@@ -64,7 +64,7 @@ module _ (inst : ProblemInstance) (ws after : List ℕ) (base n : ℕ) (c : Word
 
 -- the first k candidates are improved
 pub record ImprovedTo (inst : ProblemInstance) (h : BaselineGuillotineHeuristic) (before : List ℕ) (base k : ℕ) (ws : List ℕ) : Type 0 where
-  pub holds : Holds inst ws base k (map (improved inst h) (population_in inst before base k))
+  pub holds : Stores inst ws base k (map (improved inst h) (population_in inst before base k))
   pub only : OnlySlots base (base + k) before ws
 
 pub improved_none : (inst : ProblemInstance) (h : BaselineGuillotineHeuristic) (ws : List ℕ) (base : ℕ) → ImprovedTo inst h ws base 0 ws
@@ -94,7 +94,7 @@ module _ (inst : ProblemInstance) (h : BaselineGuillotineHeuristic) (before ws :
       ∙ sym (ap (map f) (population_snoc inst before base k) ∙ map_append f (population_in inst before base k) (candidate_at inst before (base + k) ∷ []))
       in
       record {
-        holds = subst (Holds inst after base (k + 1)) all (pushed_holds inst ws after base k d m.stands room few e (map f (population_in inst before base k)) i.holds);
+        holds = subst (Stores inst after base (k + 1)) all (pushed_holds inst ws after base k d m.stands room few e (map f (population_in inst before base k)) i.holds);
         only = pushed_within inst ws after base k d m.stands room few e before base (base + (k + 1)) (omega arith) (omega arith)
             (only_wider base (base + k) before ws i.only base (base + (k + 1)) (omega arith) (omega arith));
       }

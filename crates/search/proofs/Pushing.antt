@@ -17,7 +17,7 @@ use Rattle.model.specs.Search.{child_of, children, crossover_population}
 use Rattle.candidate.specs.declared.Candidate.{Candidate as Words}
 use Rattle.candidate.specs.Stands.{candidate_in}
 use Rattle.search.specs.Slots.{slot_words, slot_of, store_in}
-use Rattle.search.specs.Populations.{words_at, StandsAt, candidate_at, population_in, AllStand, Holds, OnlySlots}
+use Rattle.search.specs.Populations.{words_at, StandsAt, candidate_at, population_in, AllStand, Stores, OnlySlots}
 use Rattle.search.proofs.stored.Populations.{slot_kept, only_wider, only_none, only_then, same_slot, stands_as, standing_at, population_length, population_at, pushed_only}
 use Rattle.candidate.specs.Children.{IsChild}
 use Rattle.search.proofs.Passes.{pushed_holds}
@@ -28,7 +28,7 @@ use Rattle.search.specs.Regions.{PushesChild}
 pub push_none : (base size : ℕ) (ws : List ℕ) → PushesChild base size None ws ws size
 push_none base size ws =
     record {
-      holds = λ inst o cs few k h. subst (Holds inst ws base size) (sym (ap (λ (p : Option Candidate). cs ++ to_list p) k ∙ append-nil cs)) h;
+      holds = λ inst o cs few k h. subst (Stores inst ws base size) (sym (ap (λ (p : Option Candidate). cs ++ to_list p) k ∙ append-nil cs)) h;
       only = λ inst o few k. only_none (base + size) (base + size + 1) ws;
       least = omega arith;
       most = omega arith;
@@ -39,7 +39,7 @@ pub push_one : (base size : ℕ) (c : Words) (ws after : List ℕ) → slot_word
 push_one base size c ws after room e =
     record {
       holds = λ inst o cs few k h.
-          subst (Holds inst after base (size + 1)) (ap (λ (p : Option Candidate). cs ++ to_list p) (sym k.is)) (pushed_holds inst ws after base size c k.stands room few e cs h);
+          subst (Stores inst after base (size + 1)) (ap (λ (p : Option Candidate). cs ++ to_list p) (sym k.is)) (pushed_holds inst ws after base size c k.stands room few e cs h);
       only = λ inst o few k. pushed_only inst ws after base size c k.stands room few e;
       least = omega arith;
       most = omega arith;
@@ -50,7 +50,7 @@ push_one base size c ws after room e =
 -- the pairs before i have had their children
 pub record CrossedTo (inst : ProblemInstance) (h : BaselineGuillotineHeuristic) (before : List ℕ) (base count i size : ℕ) (ws : List ℕ) : Type 0 where
   pub done : List Candidate
-  pub holds : Holds inst ws base size (population_in inst before base count ++ done)
+  pub holds : Stores inst ws base size (population_in inst before base count ++ done)
   pub rest : done ++ children inst h (drop i (population_in inst before base count)) ≡ children inst h (population_in inst before base count)
   pub only : OnlySlots (base + count) (base + 48) before ws
   pub least : count ≤ size
@@ -94,7 +94,7 @@ module _ (inst : ProblemInstance) (h : BaselineGuillotineHeuristic) (before ws :
       in
       record {
         done = c.done ++ to_list o;
-        holds = subst (Holds inst after base r) (append_assoc parents c.done (to_list o)) (p.holds inst o (parents ++ c.done) cuts k c.holds);
+        holds = subst (Stores inst after base r) (append_assoc parents c.done (to_list o)) (p.holds inst o (parents ++ c.done) cuts k c.holds);
         rest = append_assoc c.done (to_list o) (children inst h (drop (i + 2) parents)) ∙ ap (λ (l : List Candidate). c.done ++ l) (sym next) ∙ c.rest;
         only = only_then (base + count) (base + 48) before ws after c.only
             (only_wider (base + size) (base + size + 1) ws after (p.only inst o cuts k) (base + count) (base + 48) (omega (arith, c.least)) (omega (arith, c.most)));
@@ -109,9 +109,9 @@ module _ (inst : ProblemInstance) (h : BaselineGuillotineHeuristic) (before ws :
   short (x ∷ []) k = refl
   short (x ∷ y ∷ l) k = absurd (omega arith)
 
-  pub crossed_all : count ≤ i + 1 → Holds inst ws base size (crossover_population inst h parents)
+  pub crossed_all : count ≤ i + 1 → Stores inst ws base size (crossover_population inst h parents)
   unfolding crossover_population
   crossed_all l =
       let none_left : children inst h (drop i parents) ≡ [] = short (drop i parents) (omega (arith, length-drop i parents, population_length inst before base count)) in
       let all : c.done ≡ children inst h parents = sym (append-nil c.done) ∙ ap (λ (r : List Candidate). c.done ++ r) (sym none_left) ∙ c.rest in
-      subst (λ (d : List Candidate). Holds inst ws base size (parents ++ d)) all c.holds
+      subst (λ (d : List Candidate). Stores inst ws base size (parents ++ d)) all c.holds

@@ -11,7 +11,7 @@ use Rattle.model.specs.Expand.{ProblemInstance}
 use Rattle.model.specs.Search.{SearchNumbers, default_heuristic, initial_population, crossover_population, survival_generation, generation, run_generations, select_best_valid, winner}
 use Rattle.trust.proofs.Population.{survivors_length}
 use Rattle.search.specs.Slots.{slot_words}
-use Rattle.search.specs.Populations.{population_in, AllStand, Holds, OnlySlots}
+use Rattle.search.specs.Populations.{population_in, AllStand, Stores, OnlySlots}
 use Rattle.search.proofs.stored.Populations.{only_then, population_length}
 use Rattle.search.specs.Ranks.{Regions}
 use Rattle.search.specs.Improved.{improved}
@@ -51,7 +51,7 @@ module _ (inst : ProblemInstance) (h : BaselineGuillotineHeuristic) (survivors :
     pub only : OnlySlots 0 96 before ws
 
   module _ (rounds : ℕ) (first : List Candidate) (before : List ℕ) (round base count : ℕ) (ws : List ℕ) (u : RunTo rounds first before round base count ws) where
-    pub run_step : (after : List ℕ) (to r : ℕ) → to ≡ 48 - base → round < rounds → survivors ≤ 32 → Holds inst after to r (generation inst h survivors (population_in inst ws base count)) → OnlySlots 0 96 ws after
+    pub run_step : (after : List ℕ) (to r : ℕ) → to ≡ 48 - base → round < rounds → survivors ≤ 32 → Stores inst after to r (generation inst h survivors (population_in inst ws base count)) → OnlySlots 0 96 ws after
         → RunTo rounds first before (round + 1) to r after
     unfolding run_generations
     run_step after to r there here few k o =

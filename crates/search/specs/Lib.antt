@@ -5,7 +5,7 @@ pub mod Regions
 pub mod Slots
 pub mod Populations
 -- seeds
-pub mod Rows
+pub mod Numbers
 pub mod Seeds
 -- survival
 pub mod Ranks

@@ -28,7 +28,7 @@ unfoldable pub AllStand : ProblemInstance → List ℕ → ℕ → ℕ → Type 
 AllStand inst ws base n = All (StandsAt inst ws) (count_from base n)
 
 -- n slots from one on hold these candidates
-pub record Holds (inst : ProblemInstance) (ws : List ℕ) (base n : ℕ) (cs : List Candidate) : Type 0 where
+pub record Stores (inst : ProblemInstance) (ws : List ℕ) (base n : ℕ) (cs : List Candidate) : Type 0 where
   pub is : population_in inst ws base n ≡ cs
   pub stands : AllStand inst ws base n
 
@@ -38,5 +38,5 @@ pub record OnlySlots (lo hi : ℕ) (before after : List ℕ) : Type 0 where
   pub high : drop (slot_words * hi) after ≡ drop (slot_words * hi) before
 
 -- what a step of the search makes of a population, in its own place or another
-abbrev pub Becomes : ProblemInstance → (ProblemInstance → List Candidate → List Candidate) → (before : List ℕ) (base n : ℕ) (after : List ℕ) (to m : ℕ) → Type 0
-Becomes inst step before base n after to m = Holds inst after to m (step inst (population_in inst before base n))
+abbrev pub PopulationBecomes : ProblemInstance → (ProblemInstance → List Candidate → List Candidate) → (before : List ℕ) (base n : ℕ) (after : List ℕ) (to m : ℕ) → Type 0
+PopulationBecomes inst step before base n after to m = Stores inst after to m (step inst (population_in inst before base n))

@@ -9,11 +9,11 @@ ghost use Rattle.lists.proofs.Perm.{Perm};
 ghost use Rattle.model.specs.Search.{crossover_population, generation, winner, initial_population};
 ghost use Rattle.project.specs.Problem.{Sound};
 ghost use Rattle.candidate.specs.Stands.{Stands};
-ghost use Rattle.search.specs.Rows.{numbers_of};
+ghost use Rattle.search.specs.Numbers.{numbers_of};
 ghost use Rattle.search.specs.Slots.{slot_words, Storable};
-ghost use Rattle.search.specs.Populations.{AllStand, Becomes, OnlySlots, Holds};
+ghost use Rattle.search.specs.Populations.{AllStand, PopulationBecomes, OnlySlots, Stores};
 ghost use Rattle.candidate.specs.Bins.{Shown};
-ghost use Rattle.search.specs.Ranks.{Chosen};
+ghost use Rattle.search.specs.Ranks.{Selected};
 ghost use Rattle.search.specs.Regions.{Region, behind_slots, PushesChild};
 ghost use Rattle.search.specs.Improved.{improved, FromSeed, Improves};
 
@@ -64,7 +64,7 @@ fn initial_population(
     n: SearchNumbers,
 ) -> usize
     requires { (length rows.now ≤ 8) × (n.shuffles ≤ 24) × (slot_words * 48 ≤ length ws.old) }
-    ensures { Holds inst.now ws.new 0 result (initial_population rows.now inst.now (numbers_of n))
+    ensures { Stores inst.now ws.new 0 result (initial_population rows.now inst.now (numbers_of n))
         × OnlySlots 0 48 ws.old ws.new × (result ≤ 32) }
 {
     let sorted = orders::sorted_cut_order(inst.cuts());
@@ -113,7 +113,7 @@ fn improve_population(
     h: BaselineGuillotineHeuristic,
 )
     requires { AllStand inst.now ws.old slots.base slots.count × (slot_words * (slots.base + slots.count) ≤ length ws.old) }
-    ensures { Becomes inst.now (λ i. map (improved i h)) ws.old slots.base slots.count ws.new slots.base slots.count
+    ensures { PopulationBecomes inst.now (λ i. map (improved i h)) ws.old slots.base slots.count ws.new slots.base slots.count
         × OnlySlots slots.base (slots.base + slots.count) ws.old ws.new }
 {
     let cuts = inst.cuts().len();
@@ -149,7 +149,7 @@ fn crossover_population(
     h: BaselineGuillotineHeuristic,
 ) -> usize
     requires { AllStand inst.now ws.old slots.base slots.count × (slots.count ≤ 32) × (slot_words * (slots.base + 48) ≤ length ws.old) }
-    ensures { Becomes inst.now (λ i. crossover_population i h) ws.old slots.base slots.count ws.new slots.base result
+    ensures { PopulationBecomes inst.now (λ i. crossover_population i h) ws.old slots.base slots.count ws.new slots.base result
         × OnlySlots (slots.base + slots.count) (slots.base + 48) ws.old ws.new × (result ≤ 48) }
 {
     let cuts = inst.cuts().len();
@@ -176,7 +176,7 @@ fn next_generation(
     survivors: usize,
 ) -> Slots
     requires { AllStand inst.now ws.old slots.base slots.count × (slots.count ≤ 32) × Region slots.base × (slot_words * 96 ≤ length ws.old) }
-    ensures { Becomes inst.now (λ i. generation i h survivors) ws.old slots.base slots.count ws.new result.base result.count
+    ensures { PopulationBecomes inst.now (λ i. generation i h survivors) ws.old slots.base slots.count ws.new result.base result.count
         × (result.base ≡ 48 - slots.base) × OnlySlots 0 96 ws.old ws.new }
 {
     let base = slots.base;
@@ -197,7 +197,7 @@ pub fn winner(
     n: SearchNumbers,
 ) -> Option<Candidate>
     requires { (length rows.now ≤ 8) × (n.shuffles ≤ 24) × (n.survivors ≤ 32) × (slot_words * 96 ≤ length ws.old) }
-    ensures { Chosen inst.now (winner rows.now inst.now (numbers_of n)) result × (behind_slots ws.new ≡ behind_slots ws.old) }
+    ensures { Selected inst.now (winner rows.now inst.now (numbers_of n)) result × (behind_slots ws.new ≡ behind_slots ws.old) }
 {
     let h = seeds::default_heuristic(rows);
     let count = initial_population(ws, free, inst, rows, n);

@@ -6,7 +6,7 @@ ghost use Rattle.model.specs.declared.CutInstance.{CutInstance};
 ghost use Rattle.model.specs.Expand.{ProblemInstance};
 ghost use Rattle.model.specs.Search.{heuristic, search_numbers, heuristic_variants, default_heuristic, initial_seeds};
 ghost use Rattle.generator.specs.Shuffle.{shuffled};
-ghost use Rattle.search.specs.Rows.{numbers_of, sorted_seeds};
+ghost use Rattle.search.specs.Numbers.{numbers_of, sorted_seeds};
 ghost use Rattle.search.specs.Seeds.{InOrder, IsSeed};
 
 use arrayvec::ArrayVec;

@@ -12,7 +12,7 @@ use Rattle.model.specs.Choice.{free_rect_choice_score}
 use Rattle.model.specs.Sheet.{GuillotineSheet, Place, score_less, best_place}
 use Rattle.fits.specs.declared.patterns.Ways.{Ways}
 use Rattle.fits.specs.ByWays.{lies_any_way, fits_by_ways}
-use Rattle.fits.specs.Numbers.{numbers_of}
+use Rattle.fits.specs.Numbers.{score_numbers}
 use Rattle.sheet.specs.declared.best_place.ScoredPlace.{ScoredPlace}
 use Rattle.model.specs.Types.{no_rect}
 
@@ -45,7 +45,7 @@ place_of (Some p) = Defined.some (place_at p.index p.free_rect p.fit)
 
 abbrev pub Scored : BaselineGuillotineHeuristic → Option ScoredPlace → Type 0
 Scored h None = Unit
-Scored h (Some p) = numbers_of p.score ≡ free_rect_choice_score p.free_rect p.fit.rect h.rect_choice
+Scored h (Some p) = score_numbers p.score ≡ free_rect_choice_score p.free_rect p.fit.rect h.rect_choice
 
 -- the best of what was best before and of further places
 pub record Over (h : BaselineGuillotineHeuristic) (before : Option ScoredPlace) (further : List Place) (r : Option ScoredPlace) : Type 0 where

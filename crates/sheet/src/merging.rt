@@ -20,7 +20,7 @@ struct FoundPair {
 }
 
 // The first pair of rectangles that merge, by the left and then by the right one. Pairs within the first `fresh` are known not to merge.
-#[tactic(auto, using(crate::proofs::merging::Scan::pair_row, crate::proofs::merging::Scan::row_skip, crate::proofs::merging::Scan::row_hit, crate::proofs::merging::Scan::row_end, crate::proofs::merging::Scan::pair_end))]
+#[tactic(auto, using(crate::proofs::merging::Scan::pair_left, crate::proofs::merging::Scan::right_skip, crate::proofs::merging::Scan::right_hit, crate::proofs::merging::Scan::right_end, crate::proofs::merging::Scan::pair_end))]
 fn find_pair(free: &[Rect], kerf_width: u32, fresh: usize) -> Option<FoundPair>
     requires { Scannable kerf_width free.now fresh }
     ensures { pair_of result ≡ first_pair kerf_width free.now }

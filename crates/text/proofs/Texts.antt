@@ -9,12 +9,12 @@ use Rattle.project.specs.declared.Refusal.{Refusal}
 use Rattle.project.specs.Refusals.{refusal_number}
 use Rattle.optimizer.specs.Promise.{number_of_answer, Promise}
 use Rattle.text.specs.PlanText.{plan_text}
-use Rattle.text.specs.Text.{refusal_text, answer_text, planned, file_text}
+use Rattle.text.specs.Text.{refusal_text, answer_text, planned, printed}
 use borrow.Author.Tests.{ne_eqb}
 
 module _ {file w p : List ℕ} {n : ℕ} (h : Promise file (replicate least_workspace 0) (replicate least_plan 0) n w p) where
-  told : answer_text n p ≡ file_text file
-  unfolding file_text
+  told : answer_text n p ≡ printed file
+  unfolding printed
   told = ap (λ (k : ℕ). answer_text k p) h.answer ∙ ap (answer_text (number_of_answer (planned file).answer)) h.plan
 
   is_plan : n ≡ 0 → plan_text p ≡ answer_text n p
@@ -25,10 +25,10 @@ module _ {file w p : List ℕ} {n : ℕ} (h : Promise file (replicate least_work
   unfolding answer_text
   is_refusal e = rw (ne_eqb n 0 e)
 
-  pub text_of_plan : n ≡ 0 → plan_text p ≡ file_text file
+  pub text_of_plan : n ≡ 0 → plan_text p ≡ printed file
   text_of_plan e = is_plan e ∙ told
 
-  pub text_of_refusal : (n ≡ 0 → ⊥) → refusal_text n ≡ file_text file
+  pub text_of_refusal : (n ≡ 0 → ⊥) → refusal_text n ≡ printed file
   text_of_refusal e = is_refusal e ∙ told
 
 pub refusal_number-positive : (r : Refusal) → refusal_number r ≡ 0 → ⊥

@@ -2,5 +2,5 @@
 pub mod Text
 -- plan_text
 pub mod PlanText
-pub mod Rows
+pub mod BodyLines
 pub mod Example

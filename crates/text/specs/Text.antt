@@ -17,5 +17,5 @@ answer_text number memory = if eqb number 0 then plan_text memory else refusal_t
 abbrev pub planned : List ℕ → Outcome
 planned file = outcome file (replicate least_workspace 0) (replicate least_plan 0)
 
-unfoldable pub file_text : List ℕ → List ℕ
-file_text file = answer_text (number_of_answer (planned file).answer) (planned file).plan
+unfoldable pub printed : List ℕ → List ℕ
+printed file = answer_text (number_of_answer (planned file).answer) (planned file).plan

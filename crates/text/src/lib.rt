@@ -4,7 +4,7 @@
 ghost use Rattle.std.specs.Prelude.{◌≡◌};
 ghost use Rattle.project.specs.Refusals.{refusal_number};
 ghost use Rattle.words.specs.Appending.{with_bytes};
-ghost use Rattle.text.specs.Text.{refusal_text, file_text};
+ghost use Rattle.text.specs.Text.{refusal_text, printed};
 
 mod plan_text; // The text of a plan's words, as the program `cutplan` prints it
 
@@ -21,7 +21,7 @@ fn put_refusal<const N: usize>(refusal: Refusal, text: &mut Buffer<N>)
 
 // The text of the answer to a file, as far as there is room.
 pub fn put_answer<const N: usize>(file: &[u8], text: &mut Buffer<N>)
-    ensures { text.new ≡ with_bytes N text.old (file_text file.now) }
+    ensures { text.new ≡ with_bytes N text.old (printed file.now) }
 {
     let mut workspace = [0u32; 16_384];
     let mut plan = [0u32; 4_500];

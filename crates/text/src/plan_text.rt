@@ -5,7 +5,7 @@ ghost use Rattle.lists.specs.Base.{concat_map, range};
 ghost use Rattle.trust.specs.Words.{sheet_in, piece_size, waste_size, node_size};
 ghost use Rattle.words.specs.Appending.{with_bytes};
 ghost use Rattle.text.specs.PlanText.{field, first_line, sheet_text, sheet_texts, plan_text};
-ghost use Rattle.text.specs.Rows.{field_at, id_at, piece_at, waste_at, node_at};
+ghost use Rattle.text.specs.BodyLines.{field_at, id_at, piece_at, waste_at, node_at};
 
 use words::append::Buffer;
 use words::numbers;
@@ -23,7 +23,7 @@ fn double(words: &[u32], k: usize) -> u64
     requires { k < 2 ^ 40 }
     ensures { result ≡ id_at words.now k }
 {
-    numbers::joined(word(words, k), word(words, k + 1))
+    numbers::from_halves(word(words, k), word(words, k + 1))
 }
 
 // ---- fields
@@ -80,20 +80,20 @@ fn id_line<const N: usize>(
     text.push(b'\n');
 }
 
-fn node_line<const N: usize>(body: &[u32], row: usize, text: &mut Buffer<N>)
-    requires { row < 2 ^ 39 }
-    ensures { text.new ≡ with_bytes N text.old (node_at body.now row) }
+fn node_line<const N: usize>(body: &[u32], at: usize, text: &mut Buffer<N>)
+    requires { at < 2 ^ 39 }
+    ensures { text.new ≡ with_bytes N text.old (node_at body.now at) }
 {
-    match word(body, row) {
-        0 => word_line(b"cut", body, row + 1, 7, text),
-        1 => id_line(b"leaf", body, row + 1, 5, text),
-        _ => word_line(b"leaf waste", body, row + 4, 4, text),
+    match word(body, at) {
+        0 => word_line(b"cut", body, at + 1, 7, text),
+        1 => id_line(b"leaf", body, at + 1, 5, text),
+        _ => word_line(b"leaf waste", body, at + 4, 4, text),
     }
 }
 
-// ---- the rows of a body's parts, by where they start and how many they are: any words may count more rows than they hold, so no slice of them
-// could be taken. A full buffer takes no more: the rows left need not be read.
-// One loop that takes the row's line as a closure gets no generated proof: its bound `Fn` would name the const parameter.
+// ---- the parts of a body, by where they start and how many they are: any words may count more than they hold, so no slice of them
+// could be taken. A full buffer takes no more: those left need not be read.
+// One loop that takes the line as a closure gets no generated proof: its bound `Fn` would name the const parameter.
 
 fn put_pieces<const N: usize>(body: &[u32], start: usize, many: u32, text: &mut Buffer<N>)
     requires { start < 2 ^ 38 }

@@ -14,7 +14,7 @@ use Rattle.model.specs.declared.StockInstance.{StockInstance}
 use Rattle.model.specs.declared.CutInstance.{CutInstance}
 use Rattle.model.specs.declared.InstanceKey.{InstanceKey}
 use Rattle.model.specs.Types.{stock_key, cut_key, same_key}
-use Rattle.model.specs.Project.{Piece, Project, project_of, well_formed}
+use Rattle.model.specs.Project.{Record, Project, project_of, well_formed}
 use Rattle.model.specs.Refusal.{Check, first_that_applies, RecordRule, stock_rule, cut_rule, record_checks, settings_checks, whole_checks, project_checks, file_checks, file_refusal, zero_side}
 use Rattle.model.specs.Expand.{compare_stock, stock_instances, cut_instances, expand_project}
 use Rattle.lists.proofs.Perm.{perm_sym, All, Pairs, all_map, all_append, all_left, all_right, all_perm, pairs_perm, sort_by_perm}
@@ -47,13 +47,13 @@ none_applies (c ∷ cs) e =
     go false k = refl
 
 -- what a rule finds of a record that it does not refuse
-abbrev pub Rule : RecordRule → (Piece → Type 0) → Type 0
-Rule rule Q = (seen : List ℕ) (count : ℕ) (p : Piece) → All Passed (rule seen count p) → Q p × (any (eqb p.id) seen ≡ false)
+abbrev pub Rule : RecordRule → (Record → Type 0) → Type 0
+Rule rule Q = (seen : List ℕ) (count : ℕ) (p : Record) → All Passed (rule seen count p) → Q p × (any (eqb p.id) seen ≡ false)
 
-abbrev pub OtherId : Piece → Piece → Type 0
+abbrev pub OtherId : Record → Record → Type 0
 OtherId p q = eqb q.id p.id ≡ false
 
-pub records : (rule : RecordRule) (Q : Piece → Type 0) → Rule rule Q → (seen : List ℕ) (count : ℕ) (ps : List Piece) → All Passed (record_checks rule seen count ps)
+pub records : (rule : RecordRule) (Q : Record → Type 0) → Rule rule Q → (seen : List ℕ) (count : ℕ) (ps : List Record) → All Passed (record_checks rule seen count ps)
     → All Q ps × All (λ p. any (eqb p.id) seen ≡ false) ps × Pairs OtherId ps
 unfolding record_checks any
 records rule Q f seen count [] e = (tt, tt, tt)
@@ -68,14 +68,14 @@ records rule Q f seen count (p ∷ ps) e =
 
 -- ---- positive sides
 
-abbrev Sides : Piece → Type 0
+abbrev Sides : Record → Type 0
 Sides p = (0 < p.width) × (0 < p.length)
 
 pub nonzero : (n : ℕ) → eqb n 0 ≡ false → 0 < n
 nonzero zero e = absurd (true≢false e)
 nonzero (suc n) e = omega arith
 
-sides : (p : Piece) → zero_side p ≡ false → Sides p
+sides : (p : Record) → zero_side p ≡ false → Sides p
 sides p e =
     let s = or_false_split (eqb p.width 0) (eqb p.length 0) e in
     (nonzero p.width s.0, nonzero p.length s.1)
@@ -119,14 +119,14 @@ module _ {A B : Type 0} (R : B → B → Type 0) (S : A → A → Type 0) (From 
 swapped : (m n : ℕ) → eqb n m ≡ false → eqb m n ≡ false
 swapped m n e = ne_eqb m n (λ k. eqb-false n m e (sym k))
 
-stock_own : (ps : List Piece) → Pairs OtherId ps → Pairs DifferBoards (concat_map stock_instances ps)
+stock_own : (ps : List Record) → Pairs OtherId ps → Pairs DifferBoards (concat_map stock_instances ps)
 stock_own =
     pairs_concat_map DifferBoards OtherId (λ p s. s.stock_id ≡ p.id) stock_instances
     (λ p. unfold stock_instances in all_map_any _ _ (λ n. refl) (range p.quantity))
     (λ p. unfold stock_instances in pairs_map (λ j k. j < k) DifferBoards _ (λ j k h. key_differs _ _ (inr (ne_eqb j k (λ e. omega arith)))) (range p.quantity) (count_rises 0 p.quantity))
     (λ p q a b s i j. key_differs (stock_key a) (stock_key b) (inl (rw (i, j) (swapped p.id q.id s))))
 
-cuts_own : (ps : List Piece) → Pairs OtherId ps → Distinct (concat_map cut_instances ps)
+cuts_own : (ps : List Record) → Pairs OtherId ps → Distinct (concat_map cut_instances ps)
 cuts_own =
     pairs_concat_map Differ OtherId (λ p s. s.cut_id ≡ p.id) cut_instances
     (λ p. unfold cut_instances in all_map_any _ _ (λ n. refl) (range p.quantity))
@@ -141,11 +141,11 @@ BoardSides s = (0 < s.width) × (0 < s.length)
 abbrev PanelSides : CutInstance → Type 0
 PanelSides c = (0 < c.width) × (0 < c.length)
 
-stock_sides : (p : Piece) → Sides p → All BoardSides (stock_instances p)
+stock_sides : (p : Record) → Sides p → All BoardSides (stock_instances p)
 unfolding stock_instances
 stock_sides p h = all_map_any BoardSides _ (λ n. h) (range p.quantity)
 
-cut_sides : (p : Piece) → Sides p → All PanelSides (cut_instances p)
+cut_sides : (p : Record) → Sides p → All PanelSides (cut_instances p)
 unfolding cut_instances
 cut_sides p h = all_map_any PanelSides _ (λ n. h) (range p.quantity)
 

@@ -13,7 +13,7 @@ use Rattle.model.specs.declared.LayoutKind.{LayoutKind}
 use Rattle.model.specs.Types.{layout_of, effort_of}
 use Rattle.model.specs.Fitness.{one}
 use Rattle.model.specs.Candidate.{Candidate}
-use Rattle.model.specs.Project.{Piece, Project, project_of, well_formed}
+use Rattle.model.specs.Project.{Record, Project, project_of, well_formed}
 use Rattle.model.specs.Refusal.{Check, first_that_applies, RecordRule, stock_rule, cut_rule, record_checks, settings_checks, whole_checks, project_checks, file_checks, file_refusal}
 use Rattle.model.specs.Search.{SearchNumbers, search_numbers, winner}
 use Rattle.model.specs.Plan.{plan_words}
@@ -36,16 +36,16 @@ first_number (c ∷ cs) k h e = go c.1 e (first_number cs k h.1)
     go true g later = subst (λ (n : ℕ). n ≤ 14) (some-injective _ _ g) h.0
     go false g later = later g
 
-stock_numbers : (seen : List ℕ) (count : ℕ) (p : Piece) → All AtMost14 (stock_rule seen count p)
+stock_numbers : (seen : List ℕ) (count : ℕ) (p : Record) → All AtMost14 (stock_rule seen count p)
 unfolding stock_rule
 stock_numbers seen count p = omega arith
 
-cut_numbers : (seen : List ℕ) (count : ℕ) (p : Piece) → All AtMost14 (cut_rule seen count p)
+cut_numbers : (seen : List ℕ) (count : ℕ) (p : Record) → All AtMost14 (cut_rule seen count p)
 unfolding cut_rule
 cut_numbers seen count p = omega arith
 
-record_numbers : (rule : RecordRule) → ((seen : List ℕ) (count : ℕ) (p : Piece) → All AtMost14 (rule seen count p))
-    → (seen : List ℕ) (count : ℕ) (ps : List Piece) → All AtMost14 (record_checks rule seen count ps)
+record_numbers : (rule : RecordRule) → ((seen : List ℕ) (count : ℕ) (p : Record) → All AtMost14 (rule seen count p))
+    → (seen : List ℕ) (count : ℕ) (ps : List Record) → All AtMost14 (record_checks rule seen count ps)
 unfolding record_checks
 record_numbers rule f seen count [] = tt
 record_numbers rule f seen count (p ∷ ps) =

@@ -44,17 +44,17 @@ use Rattle.trust.proofs.Once.{once_perm, rest_of}
 -- ---- tests that are passed
 
 -- one of a list that passes
-record Found {A : Type 0} (p : A → Bool) (xs : List A) : Type 0 where
+record Passing {A : Type 0} (p : A → Bool) (xs : List A) : Type 0 where
   one : A
   among : Memᴰ one xs
   passed : T (p one)
 
-found : {A : Type 0} (p : A → Bool) (xs : List A) → T (any p xs) → Found p xs
+found : {A : Type 0} (p : A → Bool) (xs : List A) → T (any p xs) → Passing p xs
 unfolding any
 found p [] t = absurd t
 found {A} p (x ∷ xs) t = go (p x) refl t (found p xs)
   where
-    go : (b : Bool) → p x ≡ b → T (b || any p xs) → (T (any p xs) → Found p xs) → Found p (x ∷ xs)
+    go : (b : Bool) → p x ≡ b → T (b || any p xs) → (T (any p xs) → Passing p xs) → Passing p (x ∷ xs)
     go true e h later = record { one = x; among = Memᴰ.head refl; passed = subst T (sym e) tt }
     go false e h later =
         let f = later h in

@@ -13,7 +13,7 @@ use borrow.Author.Tests.{ltb-false, eqb-true, eq-eqb, not-false}
 use Rattle.lists.specs.Base.{sum, range, concat_map, is_empty}
 use Rattle.model.specs.declared.StockInstance.{StockInstance}
 use Rattle.model.specs.declared.CutInstance.{CutInstance}
-use Rattle.model.specs.Project.{Piece, Project, little_endian, number, piece_at, pieces, project_of, stock_start, stock_length, cuts_start, cuts_length, record_length}
+use Rattle.model.specs.Project.{Record, Project, little_endian, number, read_record, read_records, project_of, stock_start, stock_length, cuts_start, cuts_length, record_length}
 use Rattle.model.specs.Refusal.{RecordRule, most_side, most_instances, total_quantity, large_side, settings_checks, stock_rule, cut_rule, record_checks, whole_checks, project_checks, file_refusal}
 use Rattle.model.specs.Expand.{ProblemInstance, compare_stock, stock_instances, cut_instances, expand_project}
 use Rattle.lists.proofs.Perm.{perm_sym, length_perm, sort_by_perm, All, all_both, all_left, all_right, all_perm}
@@ -73,13 +73,13 @@ number_lt bytes at n h = little_endian_lt n (drop at bytes) (all_drop Byte at by
 -- ---- records
 
 -- what the checks leave of a record; its id is a number of eight bytes
-abbrev Checked : Piece → Type 0
+abbrev Checked : Record → Type 0
 Checked p = (p.quantity ≤ most_instances) × (0 < p.width) × (p.width ≤ most_side) × (0 < p.length) × (p.length ≤ most_side)
 
-abbrev IdRange : Piece → Type 0
+abbrev IdRange : Record → Type 0
 IdRange p = p.id < 2 ^ 64
 
-checked : (p : Piece) (count : ℕ) → (eqb p.width 0 || eqb p.length 0) ≡ false → large_side p ≡ false → ltb most_instances (count + p.quantity) ≡ false → Checked p
+checked : (p : Record) (count : ℕ) → (eqb p.width 0 || eqb p.length 0) ≡ false → large_side p ≡ false → ltb most_instances (count + p.quantity) ≡ false → Checked p
 checked p count z l q =
     let s = or_false_split (eqb p.width 0) (eqb p.length 0) z in
     let m = or_false_split (ltb most_side p.width) (ltb most_side p.length) l in (
@@ -100,7 +100,7 @@ cut_checked seen count p h = (checked p count h.1.0 h.1.1.0 h.1.1.1.1.1.0, h.1.1
 
 -- the count of a rule goes no further than the most instances
 abbrev Counted : RecordRule → Type 0
-Counted rule = (seen : List ℕ) (count : ℕ) (p : Piece) → All Passed (rule seen count p) → count + p.quantity ≤ most_instances
+Counted rule = (seen : List ℕ) (count : ℕ) (p : Record) → All Passed (rule seen count p) → count + p.quantity ≤ most_instances
 
 stock_counted : Counted stock_rule
 unfolding stock_rule
@@ -110,7 +110,7 @@ cut_counted : Counted cut_rule
 unfolding cut_rule
 cut_counted seen count p h = ltb-false most_instances (count + p.quantity) h.1.1.1.1.1.0
 
-quantities : (rule : RecordRule) → Counted rule → (seen : List ℕ) (count : ℕ) (ps : List Piece) → count ≤ most_instances → All Passed (record_checks rule seen count ps)
+quantities : (rule : RecordRule) → Counted rule → (seen : List ℕ) (count : ℕ) (ps : List Record) → count ≤ most_instances → All Passed (record_checks rule seen count ps)
     → count + total_quantity ps ≤ most_instances
 unfolding record_checks sum
 quantities rule f seen count [] c h = omega arith
@@ -123,10 +123,10 @@ quantities rule f seen count (p ∷ ps) c h =
 
 -- ---- instances
 
-abbrev PieceRange : Piece → Type 0
+abbrev PieceRange : Record → Type 0
 PieceRange p = Checked p × IdRange p
 
-in_range : (p : Piece) (n : ℕ) → PieceRange p → n < p.quantity → InRange p.id n p.width p.length
+in_range : (p : Record) (n : ℕ) → PieceRange p → n < p.quantity → InRange p.id n p.width p.length
 in_range p n h k =
     record {
       id = h.1;
@@ -137,19 +137,19 @@ in_range p n h k =
       length = h.0.4;
     }
 
-stock_range : (p : Piece) → PieceRange p → All BoardRange (stock_instances p)
+stock_range : (p : Record) → PieceRange p → All BoardRange (stock_instances p)
 unfolding stock_instances
 stock_range p h = map_all (λ n. n < 0 + p.quantity) BoardRange _ (λ n k. in_range p n h (omega arith)) (range p.quantity) (count_below 0 p.quantity)
 
-cut_range : (p : Piece) → PieceRange p → All PanelRange (cut_instances p)
+cut_range : (p : Record) → PieceRange p → All PanelRange (cut_instances p)
 unfolding cut_instances
 cut_range p h = map_all (λ n. n < 0 + p.quantity) PanelRange _ (λ n k. in_range p n h (omega arith)) (range p.quantity) (count_below 0 p.quantity)
 
-stock_length_lem : (p : Piece) → length (stock_instances p) ≡ p.quantity
+stock_length_lem : (p : Record) → length (stock_instances p) ≡ p.quantity
 unfolding stock_instances
 stock_length_lem p = length-map _ (range p.quantity) ∙ length_count_from 0 p.quantity
 
-cut_length : (p : Piece) → length (cut_instances p) ≡ p.quantity
+cut_length : (p : Record) → length (cut_instances p) ≡ p.quantity
 unfolding cut_instances
 cut_length p = length-map _ (range p.quantity) ∙ length_count_from 0 p.quantity
 
@@ -173,7 +173,7 @@ settings p h w =
       nested = λ e. none_left p.cuts (eqb p.layout 1) (eq-eqb p.layout 1 e) w.1.0;
     }
   where
-    none_left : (cs : List Piece) (b : Bool) → b ≡ true → (b && not (is_empty cs)) ≡ false → cs ≡ []
+    none_left : (cs : List Record) (b : Bool) → b ≡ true → (b && not (is_empty cs)) ≡ false → cs ≡ []
     none_left [] b e f = refl
     none_left (c ∷ cs) true e f = absurd (true≢false f)
     none_left (c ∷ cs) false e f = absurd (true≢false (sym e))
@@ -183,11 +183,11 @@ some_stock : (p : Project) → All Passed (whole_checks p) → 0 < length p.cuts
 unfolding whole_checks
 some_stock p h k = nonzero (total_quantity p.stock) (go p.cuts k h.0)
   where
-    go : (cs : List Piece) → 0 < length cs → (not (is_empty cs) && eqb (total_quantity p.stock) 0) ≡ false → eqb (total_quantity p.stock) 0 ≡ false
+    go : (cs : List Record) → 0 < length cs → (not (is_empty cs) && eqb (total_quantity p.stock) 0) ≡ false → eqb (total_quantity p.stock) 0 ≡ false
     go [] l e = absurd (omega arith)
     go (c ∷ cs) l e = e
 
-some_record : {A : Type 0} (f : Piece → List A) (ps : List Piece) → 0 < length (concat_map f ps) → 0 < length ps
+some_record : {A : Type 0} (f : Record → List A) (ps : List Record) → 0 < length (concat_map f ps) → 0 < length ps
 unfolding concat_map
 some_record f [] h = h
 some_record f (p ∷ ps) h = omega arith
@@ -213,8 +213,8 @@ project_ranged p h stock_ids cut_ids =
 
 -- ---- the file
 
-pieces_ids : (bytes : List ℕ) (at size : ℕ) → All Byte bytes → All IdRange (pieces bytes at size)
-unfolding pieces piece_at
+pieces_ids : (bytes : List ℕ) (at size : ℕ) → All Byte bytes → All IdRange (read_records bytes at size)
+unfolding read_records read_record
 pieces_ids bytes at size h = all_map_any IdRange _ (λ k. number_lt bytes (at + record_length * k) 8 h) (range (size / record_length))
 
 pub ranged : (bytes : List ℕ) → All Byte bytes → file_refusal bytes ≡ none → Ranged (expand_project (project_of bytes))

@@ -22,7 +22,7 @@ use Rattle.model.specs.Plan.{words64, rect_words, piece_words, nodes_of, node_wo
 use Rattle.lists.proofs.Sums.{length_concat_map, map_append}
 use Rattle.lists.proofs.Maps.{concat_map_append}
 use Rattle.trust.specs.InLayout.{start_word, length_word}
-use Rattle.trust.specs.Words.{PieceIn, NodeIn, SheetIn, rows, head_size, piece_size, waste_size, node_size, key_at, rect_at, piece_in, waste_in, node_in, sheet_in, sheet_count, fitness_bits, layout_word, sheets_in}
+use Rattle.trust.specs.Words.{PieceIn, NodeIn, SheetIn, groups, head_size, piece_size, waste_size, node_size, key_at, rect_at, piece_in, waste_in, node_in, sheet_in, sheet_count, fitness_bits, layout_word, sheets_in}
 
 -- ---- the definition's sheet as it is read
 
@@ -48,18 +48,18 @@ sheet_view s =
       nodes = map node_view (nodes_of s.slicing_tree);
     }
 
--- ---- rows
+-- ---- groups
 
 module _ {A : Type 0} (f : A → List ℕ) (size : ℕ) (sized : (x : A) → length (f x) ≡ size) where
-  rows_written : (xs : List A) (rest : List ℕ) → rows size (length xs) (concat_map f xs ++ rest) ≡ map f xs
-  unfolding rows concat_map
+  rows_written : (xs : List A) (rest : List ℕ) → groups size (length xs) (concat_map f xs ++ rest) ≡ map f xs
+  unfolding groups concat_map
   rows_written [] rest = refl
   rows_written (x ∷ xs) rest =
       rw (append_assoc (f x) (concat_map f xs) rest, take_at (f x) (concat_map f xs ++ rest) size (sized x), drop_at (f x) (concat_map f xs ++ rest) size (sized x))
       (ap {B = List (List ℕ)} (λ r. f x ∷ r) (rows_written xs rest))
 
   pub read_rows : {B : Type 0} (read : List ℕ → B) (view : A → B) → ((x : A) → read (f x) ≡ view x)
-      → (xs : List A) (rest : List ℕ) → map read (rows size (length xs) (concat_map f xs ++ rest)) ≡ map view xs
+      → (xs : List A) (rest : List ℕ) → map read (groups size (length xs) (concat_map f xs ++ rest)) ≡ map view xs
   read_rows {B} read view e xs rest = ap (map read) (rows_written xs rest) ∙ go xs
     where
       go : (ys : List A) → map read (map f ys) ≡ map view ys
@@ -158,13 +158,13 @@ module _ (s : GuillotineSheet) where
   abbrev body : List ℕ
   body = head_words s ++ (all_pieces s ++ (all_waste s ++ all_nodes s))
 
-  waste_there : map waste_in (rows waste_size (length s.free_rects) (drop (head_size + piece_size * length s.placed_pieces) body)) ≡ s.free_rects
+  waste_there : map waste_in (groups waste_size (length s.free_rects) (drop (head_size + piece_size * length s.placed_pieces) body)) ≡ s.free_rects
   unfolding head_words
   waste_there =
       rw (drop_pieces (head_words s) (all_pieces s) (all_waste s ++ all_nodes s) (length s.placed_pieces) refl (pieces_size s.placed_pieces))
       (read_rows rect_words waste_size (λ r. refl) waste_in (λ r. r) waste_read s.free_rects (all_nodes s) ∙ map-id s.free_rects)
 
-  nodes_there : map node_in (rows node_size (length (nodes_of s.slicing_tree)) (drop (head_size + piece_size * length s.placed_pieces + waste_size * length s.free_rects) body))
+  nodes_there : map node_in (groups node_size (length (nodes_of s.slicing_tree)) (drop (head_size + piece_size * length s.placed_pieces + waste_size * length s.free_rects) body))
       ≡ map node_view (nodes_of s.slicing_tree)
   unfolding head_words
   nodes_there =

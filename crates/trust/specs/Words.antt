@@ -32,15 +32,15 @@ pub record SheetIn : Type 0 where
   pub waste : List Rect
   pub nodes : List NodeIn
 
--- ---- rows of words
+-- ---- groups of words
 
 abbrev pub word : List ℕ → ℕ → ℕ
 word words k = get_or words k 0
 
--- as many rows of one size, one after the other
-unfoldable pub rows : ℕ → ℕ → List ℕ → List (List ℕ)
-rows size zero words = []
-rows size (suc n) words = take size words ∷ rows size n (drop size words)
+-- as many groups of one size, one after the other
+unfoldable pub groups : ℕ → ℕ → List ℕ → List (List ℕ)
+groups size zero words = []
+groups size (suc n) words = take size words ∷ groups size n (drop size words)
 
 -- sizes: a body's words before its pieces, and those of a piece, a waste rectangle and a node
 abbrev pub head_size : ℕ
@@ -106,9 +106,9 @@ sheet_in body =
       length = word body 4;
       «use» = word body 5;
       saw = word body 6;
-      pieces = map piece_in (rows piece_size (piece_count body) (drop head_size body));
-      waste = map waste_in (rows waste_size (waste_count body) (drop (waste_start body) body));
-      nodes = map node_in (rows node_size (node_count body) (drop (nodes_start body) body));
+      pieces = map piece_in (groups piece_size (piece_count body) (drop head_size body));
+      waste = map waste_in (groups waste_size (waste_count body) (drop (waste_start body) body));
+      nodes = map node_in (groups node_size (node_count body) (drop (nodes_start body) body));
     }
 
 -- ---- the plan

@@ -1,4 +1,4 @@
--- The file of a project: its rows one after the other, its size, and that it is well formed.
+-- The file of a project: its records one after the other, its size, and that it is well formed.
 use Prim.Native.Nat.{ℕ, ◌+◌, ◌*◌, ◌%◌, ◌^◌, ◌≤◌, ◌<◌}
 use native.Mathlib.Numerals.{add-one}
 use native.Mathlib.Omega.{arith}
@@ -14,44 +14,44 @@ use Rattle.model.specs.FileOf.{bytes_of}
 use Rattle.model.specs.Project.{little_endian, number, well_formed}
 use Rattle.words.specs.Appending.{with_bytes}
 use Rattle.words.proofs.append.Buffers.{with_bytes-nil, with_bytes-append}
-use Rattle.typed.specs.declared.line.Row.{Row}
+use Rattle.typed.specs.declared.line.Fields.{Fields}
 use Rattle.typed.specs.declared.Draft.{Draft}
-use Rattle.typed.specs.Project.{row_text, rows_text, contents_text, settings_text, file_text}
+use Rattle.typed.specs.Project.{record_text, records_text, contents_text, settings_text, file_text}
 use borrow.Author.Tests.{eq-eqb, le-leb}
 
--- ---- rows one after the other
+-- ---- records one after the other
 
-rows_more : (rows : List Row) (i : ℕ) (r : Row) → i < length rows → rows_text (take i rows) ++ row_text (get_or rows i r) ≡ rows_text (take (i + 1) rows)
-unfolding rows_text concat_map
-rows_more rows i r h = sym (ap (λ (n : ℕ). concat_map row_text (take n rows)) (add-one i) ∙ ap (concat_map row_text) (take-suc rows i r h) ∙ snoc (take i rows) (get_or rows i r))
+rows_more : (records : List Fields) (i : ℕ) (r : Fields) → i < length records → records_text (take i records) ++ record_text (get_or records i r) ≡ records_text (take (i + 1) records)
+unfolding records_text concat_map
+rows_more records i r h = sym (ap (λ (n : ℕ). concat_map record_text (take n records)) (add-one i) ∙ ap (concat_map record_text) (take-suc records i r h) ∙ snoc (take i records) (get_or records i r))
   where
-    snoc : (xs : List Row) (x : Row) → concat_map row_text (xs ++ (x ∷ [])) ≡ concat_map row_text xs ++ row_text x
-    snoc [] x = append-nil (row_text x)
-    snoc (y ∷ ys) x = ap (λ (t : List ℕ). row_text y ++ t) (snoc ys x) ∙ sym (append_assoc (row_text y) (concat_map row_text ys) (row_text x))
+    snoc : (xs : List Fields) (x : Fields) → concat_map record_text (xs ++ (x ∷ [])) ≡ concat_map record_text xs ++ record_text x
+    snoc [] x = append-nil (record_text x)
+    snoc (y ∷ ys) x = ap (λ (t : List ℕ). record_text y ++ t) (snoc ys x) ∙ sym (append_assoc (record_text y) (concat_map record_text ys) (record_text x))
 
-module _ (room : ℕ) (held : List ℕ) (rows : List Row) where
-  pub rows_none : held ≡ with_bytes room held (rows_text (take 0 rows))
-  unfolding rows_text concat_map
+module _ (room : ℕ) (held : List ℕ) (records : List Fields) where
+  pub rows_none : held ≡ with_bytes room held (records_text (take 0 records))
+  unfolding records_text concat_map
   rows_none = sym (with_bytes-nil room held)
 
-  pub rows_next : (i : ℕ) (r : Row) → i < length rows → with_bytes room (with_bytes room held (rows_text (take i rows))) (row_text (get_or rows i r)) ≡ with_bytes room held (rows_text (take (i + 1) rows))
-  rows_next i r h = sym (with_bytes-append room held _ _) ∙ ap (with_bytes room held) (rows_more rows i r h)
+  pub rows_next : (i : ℕ) (r : Fields) → i < length records → with_bytes room (with_bytes room held (records_text (take i records))) (record_text (get_or records i r)) ≡ with_bytes room held (records_text (take (i + 1) records))
+  rows_next i r h = sym (with_bytes-append room held _ _) ∙ ap (with_bytes room held) (rows_more records i r h)
 
 -- ---- sizes
 
-length_row : (r : Row) → length (row_text r) ≡ 24
-unfolding row_text
+length_row : (r : Fields) → length (record_text r) ≡ 24
+unfolding record_text
 length_row r = refl
 
-length_rows : (rows : List Row) → length (rows_text rows) ≡ 24 * length rows
-unfolding rows_text
-length_rows rows = length_concat_map 24 row_text length_row rows ∙ omega arith
+length_rows : (records : List Fields) → length (records_text records) ≡ 24 * length records
+unfolding records_text
+length_rows records = length_concat_map 24 record_text length_row records ∙ omega arith
 
 pub length_file : (d : Draft) → length (file_text d) ≡ 32 + 24 * length d.boards + 24 * length d.panels
 unfolding file_text contents_text settings_text
 length_file d =
-    let e : length (rows_text d.boards ++ rows_text d.panels) ≡ 24 * length d.boards + 24 * length d.panels =
-    length-append (rows_text d.boards) (rows_text d.panels) ∙ (λ i. length_rows d.boards i + length_rows d.panels i) in
+    let e : length (records_text d.boards ++ records_text d.panels) ≡ 24 * length d.boards + 24 * length d.panels =
+    length-append (records_text d.boards) (records_text d.panels) ∙ (λ i. length_rows d.boards i + length_rows d.panels i) in
     rw e (omega arith)
 
 -- ---- the contents

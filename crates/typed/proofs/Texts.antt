@@ -6,7 +6,7 @@ use Rattle.typed.specs.declared.line.Reason.{Reason}
 use Rattle.typed.specs.Words.{first_word, behind_space}
 use Rattle.typed.specs.Lines.{line_of}
 use Rattle.typed.specs.declared.Draft.{Draft}
-use Rattle.typed.specs.Project.{glued, lines_of, empty, refusal_of, added, answer_of, unless, meaning_from, meaning}
+use Rattle.typed.specs.Project.{glued, lines_of, empty, reason_of, added, answer_of, unless, meaning_from, meaning}
 use Rattle.std.proofs.lemmas.List.FromFn.{length-enumerate_from}
 use lib.ListN.{drop_of_length-le}
 use denote.Param.Members.{Mut}
@@ -49,7 +49,7 @@ empty_line = refl
 meaning_more : (number : ℕ) (d : Draft) (ls : List (List ℕ)) → meaning_from number d (more ls) ≡ meaning_from number d ls
 unfolding meaning_from unless
 meaning_more number d [] = rw empty_line refl
-meaning_more number d (l ∷ ls) = ap (unless number (refusal_of d (line_of l))) (meaning_more (number + 1) (added d (line_of l)) ls)
+meaning_more number d (l ∷ ls) = ap (unless number (reason_of d (line_of l))) (meaning_more (number + 1) (added d (line_of l)) ls)
 
 pub meaning_split : (number : ℕ) (d : Draft) (text : List ℕ) → meaning_from number d (slice_split ends_line text) ≡ meaning_from number d (lines_of text)
 meaning_split number d text =
@@ -57,11 +57,11 @@ meaning_split number d text =
 
 -- the meaning of the lines that are left: a bad one, a good one, none
 module _ (number : ℕ) (d : Draft) (l : List ℕ) (ls : List (List ℕ)) where
-  pub line_bad : (why : Reason) → refusal_of d (line_of l) ≡ Some why → meaning_from number d (l ∷ ls) ≡ Err (record { number = number; why = why })
+  pub line_bad : (why : Reason) → reason_of d (line_of l) ≡ Some why → meaning_from number d (l ∷ ls) ≡ Err (record { number = number; why = why })
   unfolding meaning_from unless
   line_bad why e = rw e
 
-  pub line_good : refusal_of d (line_of l) ≡ None → meaning_from number d (l ∷ ls) ≡ meaning_from (number + 1) (added d (line_of l)) ls
+  pub line_good : reason_of d (line_of l) ≡ None → meaning_from number d (l ∷ ls) ≡ meaning_from (number + 1) (added d (line_of l)) ls
   unfolding meaning_from unless
   line_good e = rw e
 
@@ -91,14 +91,14 @@ module _ (text : List ℕ) (k : ℕ) (d : Draft)
   whole = meaning_split 1 empty text
 
   module _ (i : ℕ) (l : List ℕ) (turn : (k < length (enumerate_from 0 pieces)) × ((i, l) ≡ get_or (enumerate_from 0 pieces) k (i, l))) where
-    pub bad_turn : (why : Reason) → Err why ≡ answer_of (refusal_of d (line_of l)) → Err (record { number = i + 1; why = why }) ≡ meaning text
+    pub bad_turn : (why : Reason) → Err why ≡ answer_of (reason_of d (line_of l)) → Err (record { number = i + 1; why = why }) ≡ meaning text
     bad_turn why e =
         let p = numbered 0 k pieces i l turn in
         let number : i + 1 ≡ k + 1 = omega (arith, p.0) in
         ap (λ (n : ℕ). Err (record { number = n; why = why })) number
         ∙ sym (line_bad (k + 1) d l (drop (suc k) pieces) why (answer_some _ why e)) ∙ ap (meaning_from (k + 1) d) (sym p.1) ∙ h ∙ whole
 
-    pub good_turn : Ok tt ≡ answer_of (refusal_of d (line_of l)) → meaning_from (k + 1 + 1) (added d (line_of l)) (drop (k + 1) pieces) ≡ meaning_from 1 empty pieces
+    pub good_turn : Ok tt ≡ answer_of (reason_of d (line_of l)) → meaning_from (k + 1 + 1) (added d (line_of l)) (drop (k + 1) pieces) ≡ meaning_from 1 empty pieces
     good_turn e =
         let p = numbered 0 k pieces i l turn in
         ap (λ (n : ℕ). meaning_from (k + 1 + 1) (added d (line_of l)) (drop n pieces)) (add-one k) ∙ sym (line_good (k + 1) d l (drop (suc k) pieces) (answer_none _ e)) ∙ ap (meaning_from (k + 1) d) (sym p.1) ∙ h

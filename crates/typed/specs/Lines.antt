@@ -9,7 +9,7 @@ use Rattle.typed.specs.declared.line.Setting.{Setting}
 use Rattle.typed.specs.declared.line.Kind.{Kind}
 use Rattle.typed.specs.declared.line.Keyword.{Keyword}
 use Rattle.typed.specs.declared.line.Line.{Line}
-use Rattle.typed.specs.Words.{first_word, after_word, number_of, code_in}
+use Rattle.typed.specs.Words.{first_word, after_word, decimal_value, code_in}
 
 -- ---- one field, and what is left of the line behind it
 
@@ -18,7 +18,7 @@ abbrev pub found : Option ℕ → List ℕ → Option (ℕ × List ℕ)
 found o rest = option_map (λ n. (n, after_word rest)) o
 
 abbrev pub number : ℕ → List ℕ → Option (ℕ × List ℕ)
-number most rest = found (number_of most (first_word rest)) rest
+number most rest = found (decimal_value most (first_word rest)) rest
 
 abbrev pub choice : ℕ → List (List ℕ) → List ℕ → Option (ℕ × List ℕ)
 choice first table rest = found (code_in first table (first_word rest)) rest

@@ -7,7 +7,7 @@ use Rattle.model.specs.FileOf.{bytes_of}
 use Rattle.typed.specs.declared.line.Kind.{Kind}
 use Rattle.typed.specs.declared.line.Line.{Line}
 use Rattle.typed.specs.declared.line.Reason.{Reason}
-use Rattle.typed.specs.declared.line.Row.{Row}
+use Rattle.typed.specs.declared.line.Fields.{Fields}
 use Rattle.typed.specs.declared.line.Setting.{Setting}
 use Rattle.typed.specs.Lines.{line_of}
 use Rattle.typed.specs.Messages.{message_of}
@@ -20,35 +20,35 @@ use Rattle.typed.specs.declared.Draft.{Draft}
 abbrev pub empty : Draft
 empty = record { kerf = 0; layout = 0; effort = 0; unit = 0; boards = []; panels = [] }
 
-abbrev pub set : Draft → Setting → ℕ → Draft
-set d Setting.Kerf n = record d { kerf = n }
-set d Setting.Layout n = record d { layout = n }
-set d Setting.Effort n = record d { effort = n }
-set d Setting.Unit n = record d { unit = n }
+abbrev pub with_setting : Draft → Setting → ℕ → Draft
+with_setting d Setting.Kerf n = record d { kerf = n }
+with_setting d Setting.Layout n = record d { layout = n }
+with_setting d Setting.Effort n = record d { effort = n }
+with_setting d Setting.Unit n = record d { unit = n }
 
 -- at most 64 records of a kind
-abbrev pub pushed : List Row → Row → List Row
-pushed rows row = if ltb (length rows) 64 then rows ++ (row ∷ []) else rows
+abbrev pub pushed : List Fields → Fields → List Fields
+pushed records fields = if ltb (length records) 64 then records ++ (fields ∷ []) else records
 
-abbrev pub rows_added : Draft → Kind → Row → Draft
-rows_added d Kind.Board row = record d { boards = pushed d.boards row }
-rows_added d Kind.Panel row = record d { panels = pushed d.panels row }
+abbrev pub record_added : Draft → Kind → Fields → Draft
+record_added d Kind.Board fields = record d { boards = pushed d.boards fields }
+record_added d Kind.Panel fields = record d { panels = pushed d.panels fields }
 
 abbrev pub added : Draft → Result Line Reason → Draft
 added d (Ok Line.Blank) = d
-added d (Ok (Line.Set setting n)) = set d setting n
-added d (Ok (Line.Record kind row)) = rows_added d kind row
+added d (Ok (Line.Set setting n)) = with_setting d setting n
+added d (Ok (Line.Record kind fields)) = record_added d kind fields
 added d (Err why) = d
 
 abbrev pub too_many : ℕ → Option Reason
 too_many count = if ltb count 64 then None else Some Reason.TooMany
 
-abbrev pub refusal_of : Draft → Result Line Reason → Option Reason
-refusal_of d (Ok Line.Blank) = None
-refusal_of d (Ok (Line.Set setting n)) = None
-refusal_of d (Ok (Line.Record Kind.Board row)) = too_many (length d.boards)
-refusal_of d (Ok (Line.Record Kind.Panel row)) = too_many (length d.panels)
-refusal_of d (Err why) = Some why
+abbrev pub reason_of : Draft → Result Line Reason → Option Reason
+reason_of d (Ok Line.Blank) = None
+reason_of d (Ok (Line.Set setting n)) = None
+reason_of d (Ok (Line.Record Kind.Board fields)) = too_many (length d.boards)
+reason_of d (Ok (Line.Record Kind.Panel fields)) = too_many (length d.panels)
+reason_of d (Err why) = Some why
 
 -- what is answered where nothing refuses, and where something does
 abbrev pub answer_of : Option Reason → Result (Unit {0}) Reason
@@ -57,13 +57,13 @@ answer_of (Some why) = Err why
 
 -- ---- the file
 
-unfoldable pub row_text : Row → List ℕ
-row_text r =
+unfoldable pub record_text : Fields → List ℕ
+record_text r =
     bytes_of 8 r.id ++ (bytes_of 4 r.width ++ (bytes_of 4 r.length ++ (bytes_of 4 r.quantity
     ++ (bytes_of 1 r.pattern ++ (bytes_of 1 r.flag ++ bytes_of 2 0)))))
 
-unfoldable pub rows_text : List Row → List ℕ
-rows_text rows = concat_map row_text rows
+unfoldable pub records_text : List Fields → List ℕ
+records_text records = concat_map record_text records
 
 -- start and length of settings, stock and cuts
 unfoldable pub contents_text : ℕ → ℕ → List ℕ
@@ -76,7 +76,7 @@ settings_text kerf layout effort unit = bytes_of 4 kerf ++ (bytes_of 1 layout ++
 unfoldable pub file_text : Draft → List ℕ
 file_text d =
     contents_text (length d.boards) (length d.panels) ++ (settings_text d.kerf d.layout d.effort d.unit
-    ++ (rows_text d.boards ++ rows_text d.panels))
+    ++ (records_text d.boards ++ records_text d.panels))
 
 -- ---- the text
 
@@ -97,7 +97,7 @@ unless number (Some why) meaning = Err (record { number = number; why = why })
 -- the lines from a number on
 unfoldable pub meaning_from : ℕ → Draft → List (List ℕ) → Result Draft BadLine
 meaning_from number d [] = Ok d
-meaning_from number d (l ∷ ls) = unless number (refusal_of d (line_of l)) (meaning_from (number + 1) (added d (line_of l)) ls)
+meaning_from number d (l ∷ ls) = unless number (reason_of d (line_of l)) (meaning_from (number + 1) (added d (line_of l)) ls)
 
 -- the project, or the first bad line and its number, counted from one
 unfoldable pub meaning : List ℕ → Result Draft BadLine

@@ -39,9 +39,9 @@ read_digits most n (c ∷ cs) =
     if leb 48 c && leb c 57 && leb (10 * n + (c - 48)) most then read_digits most (10 * n + (c - 48)) cs else None
 
 -- a decimal number up to a largest one
-unfoldable pub number_of : ℕ → List ℕ → Option ℕ
-number_of most [] = None
-number_of most (c ∷ cs) = read_digits most 0 (c ∷ cs)
+unfoldable pub decimal_value : ℕ → List ℕ → Option ℕ
+decimal_value most [] = None
+decimal_value most (c ∷ cs) = read_digits most 0 (c ∷ cs)
 
 -- the number of the word in a table, counted from one on
 unfoldable pub code_in : ℕ → List (List ℕ) → List ℕ → Option ℕ

@@ -5,13 +5,13 @@ ghost use Rattle.std.specs.Prelude.{◌≡◌, ◌≤◌, true, [], length, IfOk
 ghost use Rattle.words.specs.Appending.{with_bytes};
 ghost use Rattle.model.specs.Project.{well_formed};
 ghost use Rattle.typed.specs.Lines.{line_of};
-ghost use Rattle.typed.specs.Project.{empty, set, pushed, added, too_many, refusal_of, answer_of, row_text, rows_text, contents_text, settings_text, file_text, meaning, file_of, message_of_line};
+ghost use Rattle.typed.specs.Project.{empty, with_setting, pushed, added, too_many, reason_of, answer_of, record_text, records_text, contents_text, settings_text, file_text, meaning, file_of, message_of_line};
 
 mod line; // One line of a project that a person has typed
 mod line_words; // The words of a line, one after the other, and what they say
 
 use arrayvec::ArrayVec;
-use line::{Kind, Line, Reason, Row, Setting};
+use line::{Fields, Kind, Line, Reason, Setting};
 use std::error::Error;
 use std::fmt;
 use std::marker::Model;
@@ -21,38 +21,38 @@ use words::append::Buffer;
 
 // At most 64 records of a kind.
 #[derive(Drop)]
-struct Rows {
-    all: ArrayVec<Row, 64>,
+struct Records {
+    all: ArrayVec<Fields, 64>,
 }
 
-impl Model for Rows {
+impl Model for Records {
     ghost use Rattle.std.specs.Prelude.{List};
-    ghost use Rattle.typed.specs.declared.line.Row.{Row};
+    ghost use Rattle.typed.specs.declared.line.Fields.{Fields};
 
-    ghost Value = { List Row };
+    ghost Value = { List Fields };
 
-    ghost view = { λ rows. rows.all.items };
+    ghost view = { λ records. records.all.items };
 }
 
-impl Rows {
+impl Records {
     fn new() -> Self
         ensures { result ≡ [] }
     {
-        Rows {
+        Records {
             all: ArrayVec::new(),
         }
     }
 
-    // A sixty-fifth row is left out.
-    fn push(&mut self, row: Row) -> Result<(), Reason>
+    // A sixty-fifth fields is left out.
+    fn push(&mut self, fields: Fields) -> Result<(), Reason>
         ensures answer { result ≡ answer_of (too_many (length self.old)) }
-        ensures rows { self.new ≡ pushed self.old row }
+        ensures records { self.new ≡ pushed self.old fields }
     {
-        self.all.try_push(row).map_err(|_| Reason::TooMany)
+        self.all.try_push(fields).map_err(|_| Reason::TooMany)
     }
 
-    fn as_slice(&self) -> &[Row]
-        ensures rows { result.now ≡ self.now }
+    fn as_slice(&self) -> &[Fields]
+        ensures records { result.now ≡ self.now }
         ensures within { length self.now ≤ 64 }
     {
         self.all.as_slice()
@@ -67,8 +67,8 @@ struct Draft {
     layout: u64,
     effort: u64,
     unit: u64,
-    boards: Rows,
-    panels: Rows,
+    boards: Records,
+    panels: Records,
 }
 
 impl Draft {
@@ -80,13 +80,13 @@ impl Draft {
             layout: 0,
             effort: 0,
             unit: 0,
-            boards: Rows::new(),
-            panels: Rows::new(),
+            boards: Records::new(),
+            panels: Records::new(),
         }
     }
 
     fn set(&mut self, setting: Setting, number: u64)
-        ensures { self.new ≡ set self.old setting number }
+        ensures { self.new ≡ with_setting self.old setting number }
     {
         match setting {
             Setting::Kerf => self.kerf = number,
@@ -98,7 +98,7 @@ impl Draft {
 
     // Takes what a line says, or answers why it cannot.
     fn add(&mut self, line: &[u8]) -> Result<(), Reason>
-        ensures answer { result ≡ answer_of (refusal_of self.old (line_of line.now)) }
+        ensures answer { result ≡ answer_of (reason_of self.old (line_of line.now)) }
         ensures project { self.new ≡ added self.old (line_of line.now) }
     {
         match line::read_line(line)? {
@@ -107,8 +107,8 @@ impl Draft {
                 self.set(setting, number);
                 Ok(())
             }
-            Line::Record(Kind::Board, row) => self.boards.push(row),
-            Line::Record(Kind::Panel, row) => self.panels.push(row),
+            Line::Record(Kind::Board, fields) => self.boards.push(fields),
+            Line::Record(Kind::Panel, fields) => self.panels.push(fields),
         }
     }
 
@@ -122,8 +122,8 @@ impl Draft {
         let mut file = Buffer::new();
         push_contents(&mut file, boards.len() as u64, panels.len() as u64);
         push_settings(&mut file, self.kerf, self.layout, self.effort, self.unit);
-        push_rows(&mut file, boards);
-        push_rows(&mut file, panels);
+        push_records(&mut file, boards);
+        push_records(&mut file, panels);
         file
     }
 }
@@ -153,23 +153,23 @@ fn push_settings(file: &mut Buffer<3104>, kerf: u64, layout: u64, effort: u64, u
     file.push_number(0, 1);
 }
 
-fn push_row(file: &mut Buffer<3104>, row: &Row)
-    ensures { file.new ≡ with_bytes 3104 file.old (row_text row.now) }
+fn push_record(file: &mut Buffer<3104>, fields: &Fields)
+    ensures { file.new ≡ with_bytes 3104 file.old (record_text fields.now) }
 {
-    file.push_number(row.id, 8);
-    file.push_number(row.width, 4);
-    file.push_number(row.length, 4);
-    file.push_number(row.quantity, 4);
-    file.push_number(row.pattern, 1);
-    file.push_number(row.flag, 1);
+    file.push_number(fields.id, 8);
+    file.push_number(fields.width, 4);
+    file.push_number(fields.length, 4);
+    file.push_number(fields.quantity, 4);
+    file.push_number(fields.pattern, 1);
+    file.push_number(fields.flag, 1);
     file.push_number(0, 2);
 }
 
-fn push_rows(file: &mut Buffer<3104>, rows: &[Row])
-    ensures { file.new ≡ with_bytes 3104 file.old (rows_text rows.now) }
+fn push_records(file: &mut Buffer<3104>, records: &[Fields])
+    ensures { file.new ≡ with_bytes 3104 file.old (records_text records.now) }
 {
-    for row in rows {
-        push_row(file, row);
+    for fields in records {
+        push_record(file, fields);
     }
 }
 

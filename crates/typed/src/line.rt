@@ -55,7 +55,7 @@ pub enum Kind {
 // The fields of a record of the project file, as numbers as they are there: a typed word is a place in a table, so an enum between them would be
 // made and unmade at once. `flag` is finite or can_rotate.
 #[derive(Clone, Copy, Debug, PartialEq, Eq, Default)]
-pub struct Row {
+pub struct Fields {
     pub id: u64,
     pub width: u64,
     pub length: u64,
@@ -69,7 +69,7 @@ pub struct Row {
 pub enum Line {
     Blank,
     Set(Setting, u64),
-    Record(Kind, Row),
+    Record(Kind, Fields),
 }
 
 // What a line begins with: both are words of lines, and none is the other's absence.
@@ -106,7 +106,7 @@ fn setting_line(setting: Setting, mut words: Words) -> Result<Line, Reason>
 fn record_line(kind: Kind, mut words: Words) -> Result<Line, Reason>
     ensures { result ≡ record_line kind words.entry.rest.now }
 {
-    let row = Row {
+    let fields = Fields {
         id: words.number(u64::MAX)?,
         width: words.number(MOST_SIZE)?,
         length: words.number(MOST_SIZE)?,
@@ -115,7 +115,7 @@ fn record_line(kind: Kind, mut words: Words) -> Result<Line, Reason>
         flag: words.flag(kind),
     };
     words.end()?;
-    Ok(Line::Record(kind, row))
+    Ok(Line::Record(kind, fields))
 }
 
 pub fn read_line(line: &[u8]) -> Result<Line, Reason>

@@ -3,7 +3,7 @@
 ghost use Rattle.std.specs.Prelude.{◌≡◌, ℕ, Bool, true, false, [], ◌∷◌, map, MatchResult};
 ghost use Rattle.std.specs.List.{before_first};
 ghost use Rattle.lists.specs.Base.{is_empty};
-ghost use Rattle.typed.specs.Words.{is_blank, from_first, first_word, after_word, number_of, read_digits, code_in};
+ghost use Rattle.typed.specs.Words.{is_blank, from_first, first_word, after_word, decimal_value, read_digits, code_in};
 ghost use Rattle.typed.specs.Lines.{IsTaken, number, choice, quantity, grain, flag_of, setting_of, why_of};
 
 use super::line::{Kind, Reason, Setting};
@@ -39,7 +39,7 @@ fn more_digits(number: u64, byte: u8, most: u64) -> Option<u64>
 
 // The decimal number that a word says; an empty word says none.
 fn digits(word: &[u8], most: u64) -> Option<u64>
-    ensures { result ≡ number_of most word.now }
+    ensures { result ≡ decimal_value most word.now }
 {
     if word.is_empty() {
         return None;

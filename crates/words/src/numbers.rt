@@ -4,7 +4,7 @@ ghost use Rattle.std.specs.Prelude.{◌≡◌, ◌+◌, ◌*◌, ◌/◌, ◌%�
 ghost use Rattle.model.specs.Project.{number};
 
 // A u64 in two words of a plan, low then high: which half a word is no conversion of the library's says.
-pub fn joined(low: u32, high: u32) -> u64
+pub fn from_halves(low: u32, high: u32) -> u64
     ensures { result ≡ low + 2 ^ 32 * high }
 {
     u64::from(low) + 0x1_0000_0000 * u64::from(high)

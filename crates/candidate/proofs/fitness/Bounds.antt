@@ -11,7 +11,7 @@ use Rattle.trust.proofs.Rounding.{has_number}
 use Rattle.trust.proofs.Fractions.{Upto, part_upto, times_upto, plus_upto, quotient_upto}
 use Rattle.trust.proofs.FitnessRange.{weight_has}
 use Rattle.candidate.specs.declared.fitness.SheetAreas.{SheetAreas}
-use Rattle.candidate.specs.Areas.{share_of, weighted_share, add_shares, board_areas, fitness_of, Inside}
+use Rattle.candidate.specs.Areas.{share_of, weighted_share, add_shares, board_areas, fitness_of, WithinBoards}
 
 zero_upto : (n : ℕ) → Upto binary64 positive_zero n
 zero_upto n = record { v = 0; has = (refl, refl); most = zero-le }
@@ -28,14 +28,14 @@ weighted_upto : (s : SheetAreas) → s.placed ≤ s.board → s.board ≤ 2 ^ 53
 unfolding weighted_share
 weighted_upto s h A = times_upto binary64 (share_of s) (weight s.board) s.board (share_upto s h A) (weight_has s.board A) A
 
-shares_upto : (sheets : List SheetAreas) (x : Float) (m : ℕ) → Inside sheets → Upto binary64 x m → m + board_areas sheets ≤ 2 ^ 53 → Upto binary64 (add_shares x sheets) (m + board_areas sheets)
+shares_upto : (sheets : List SheetAreas) (x : Float) (m : ℕ) → WithinBoards sheets → Upto binary64 x m → m + board_areas sheets ≤ 2 ^ 53 → Upto binary64 (add_shares x sheets) (m + board_areas sheets)
 unfolding add_shares sum
 shares_upto [] x m i u h = record { v = u.v; has = u.has; most = le_trans u.most (mul-le-mul_right (2 ^ low binary64) (omega arith)) }
 shares_upto (s ∷ sheets) x m i u h =
     subst (λ (n : ℕ). Upto binary64 (add_shares (add binary64 x (weighted_share s)) sheets) n) (add_assoc m s.board (board_areas sheets))
     (shares_upto sheets (add binary64 x (weighted_share s)) (m + s.board) i.1 (plus_upto binary64 x (weighted_share s) m s.board u (weighted_upto s i.0 (omega arith)) (omega arith)) (omega arith))
 
-module _ (sheets : List SheetAreas) (i : Inside sheets) (exact : board_areas sheets ≤ 2 ^ 53) where
+module _ (sheets : List SheetAreas) (i : WithinBoards sheets) (exact : board_areas sheets ≤ 2 ^ 53) where
   fitness_upto : Upto binary64 (Option.get_or (fitness_of sheets) positive_zero) 1
   unfolding fitness_of
   fitness_upto = go (eqb (board_areas sheets) 0) (eqb-false (board_areas sheets) 0)

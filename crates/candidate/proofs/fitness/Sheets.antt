@@ -7,7 +7,7 @@ use Rattle.lists.proofs.Maps.{map-map}
 use Rattle.model.specs.Types.{stock_area}
 use Rattle.model.specs.Sheet.{GuillotineSheet, placed_area}
 use Rattle.model.specs.Fitness.{positive_zero, sheet_fitness, weighted_fitness, used_stock_area, fitness}
-use Rattle.candidate.specs.Areas.{areas_of, share_of, weighted_share, add_shares, board_areas, fitness_of, Inside}
+use Rattle.candidate.specs.Areas.{areas_of, share_of, weighted_share, add_shares, board_areas, fitness_of, WithinBoards}
 
 abbrev pub board_area : GuillotineSheet → ℕ
 board_area sheet = stock_area sheet.stock
@@ -34,6 +34,6 @@ unfolding fitness fitness_of
 fitness_areas bins = rw (used_stock_area_areas bins, shares_areas bins positive_zero)
 
 -- no sheet has more placed on it than its board's area
-pub inside_areas : (bins : List GuillotineSheet) → All (λ b. placed_area b ≤ board_area b) bins → Inside (map areas_of bins)
+pub inside_areas : (bins : List GuillotineSheet) → All (λ b. placed_area b ≤ board_area b) bins → WithinBoards (map areas_of bins)
 inside_areas [] h = tt
 inside_areas (b ∷ bins) h = (h.0, inside_areas bins h.1)

@@ -1,7 +1,8 @@
 -- `candidate::heuristic_of` meets its contract.
 use Rattle.candidate.specs.Entries.{heuristic_of}
+use borrow.Author.Rules.{rules}
 use Rattle.candidate.proofs.heuristic_of.Goals as goal
 
 pub returns : goal.returns
 unfolding heuristic_of
-returns c = simp (c.rotation_of.ensures, c.split_of.ensures, c.choice_of.ensures)
+returns c = search rules

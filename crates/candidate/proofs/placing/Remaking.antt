@@ -23,7 +23,7 @@ use Rattle.model.specs.Sheet.{GuillotineSheet, try_insert, rebuild}
 use Rattle.model.specs.Expand.{ProblemInstance}
 use Rattle.trust.proofs.Ranges.{Ranged}
 use Rattle.project.specs.Problem.{board_in, cut_in}
-use Rattle.candidate.specs.Entries.{board_of, cut_of, row_of, on_board}
+use Rattle.candidate.specs.Entries.{board_of, cut_of, heuristic_of, on_board}
 use Rattle.candidate.specs.Stands.{insertion_in, making_in, bin_in}
 use Rattle.candidate.specs.Bins.{Other, rects_on, with_bin, ShowsBin}
 use Rattle.candidate.proofs.Makings.{rebuild_fails, rebuilt_bin, bare_rebuilt, bin_bare, making_append, making_other, bin_other, rebuilt_more, rebuilt_same}
@@ -119,7 +119,7 @@ module _ (inst : ProblemInstance) (words : List ℕ) (before : List (List Rect))
   -- ---- what it leaves
 
   module _ (after : List (List Rect)) (r : Bool)
-      (inserts : InsertsOnBoard inst.kerf_width (board_in inst board).pattern (record { cut = cut_in inst (cut_of word); heuristic = row_of word }) board free after r) where
+      (inserts : InsertsOnBoard inst.kerf_width (board_in inst board).pattern (record { cut = cut_in inst (cut_of word); heuristic = heuristic_of word }) board free after r) where
     into : InsertsOn inst.kerf_width sheet (insertion_in inst word) board free after r
     unfolding insertion_in
     into =

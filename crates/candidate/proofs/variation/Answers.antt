@@ -20,7 +20,7 @@ use Rattle.candidate.specs.Moves.{new_words}
 use Rattle.candidate.specs.Stands.{making_in, placed_words, unused_numbers, candidate_in, Stands}
 use Rattle.candidate.specs.Rebuilding.{rebuilds_all, Rebuildable}
 use Rattle.candidate.specs.OnSheets.{IsBestDonor}
-use Rattle.candidate.specs.Donated.{with_insertions, with_unused_cuts, donated, others_than, index_of, sheet_of, child_words}
+use Rattle.candidate.specs.Donated.{with_insertions, with_unused_cuts, donated, others_than, place_among, sheet_of, child_words}
 use Rattle.candidate.specs.Children.{IsTheChild}
 use Rattle.candidate.proofs.variation.Sheets.{index_known}
 use Rattle.candidate.proofs.variation.Crossed.{Ready, child_ready, child_of_lem, child_none, child_some, child_stands}
@@ -55,7 +55,7 @@ module _ (inst : ProblemInstance) (sound : Sound inst) (h : BaselineGuillotineHe
   pub donor_few : length (placed_words right) ≤ 64
   donor_few = omega (arith, r.counts, sound.ranged.few_panels)
 
-  pub index_found : index_of board left.boards < 64
+  pub index_found : place_among board left.boards < 64
   index_found = omega (arith, ready.index, sound.ranged.few_boards)
 
   -- the insertions that were made, as words

@@ -37,7 +37,7 @@ use Rattle.candidate.specs.Entries.{board_of, cut_of, on_board}
 use Rattle.candidate.specs.Moves.{new_words, moved_up}
 use Rattle.candidate.specs.Stands.{insertion_in, making_in, bin_in, sheet_boards, available_boards, placed_words, unused_numbers, candidate_in, Stands}
 use Rattle.project.specs.Problem.{board_in, cut_in, no_stock, no_cut}
-use Rattle.candidate.proofs.Codes.{board_back, cut_back, row_back}
+use Rattle.candidate.proofs.Codes.{board_back, cut_back, heuristic_back}
 use Rattle.candidate.proofs.Lists.{moved_front, length_moved}
 use Rattle.candidate.proofs.Makings.{rebuilt_bin}
 use Rattle.candidate.proofs.Standing.{few_boards_lem, length_all_boards, boards_split, boards_below}
@@ -46,9 +46,9 @@ use Rattle.candidate.specs.OnSheets.{no_bin, IsBestDonor}
 use Rattle.candidate.proofs.evaluation.BestIndex.{donor_bin}
 use Rattle.candidate.proofs.evaluation.Sheets.{Made, bin_made, BinAt, bin_at}
 use Rattle.candidate.proofs.evaluation.KeyNumbers.{same_number, contains_number}
-use Rattle.candidate.specs.Donated.{with_insertions, with_unused_cuts, anew, donated, others_than, index_of, sheet_of, child_words}
+use Rattle.candidate.specs.Donated.{with_insertions, with_unused_cuts, anew, donated, others_than, place_among, sheet_of, child_words}
 use Rattle.candidate.proofs.variation.Pushes.{cut_small}
-use Rattle.candidate.proofs.variation.Picks.{indexed, index_append, find_row, others_perm}
+use Rattle.candidate.proofs.variation.Picks.{indexed, index_append, find_keyed, others_perm}
 
 -- ---- the donor's cuts, to be placed anew
 
@@ -84,7 +84,7 @@ module _ (inst : ProblemInstance) (words : List ℕ) (board : ℕ) (h : Baseline
       go [] = refl
       go (w ∷ l) =
           ap₂ {C = List Insertion} (λ x r. x ∷ r)
-          (λ i. record { cut = cut_in inst (cut_back board (cut_of w) h (cut_small w) i); heuristic = row_back board (cut_of w) h i }) (go l)
+          (λ i. record { cut = cut_in inst (cut_back board (cut_of w) h (cut_small w) i); heuristic = heuristic_back board (cut_of w) h i }) (go l)
 
 -- ---- the child
 
@@ -96,7 +96,7 @@ pub record Ready (inst : ProblemInstance) (left right : Words) (board : ℕ) (h 
   pub cuts : All (λ w. cut_of w < length inst.cuts) (donated (placed_words right) board h)
   pub on : All (λ w. Memᴰ (board_of w) (board ∷ [])) (donated (placed_words right) board h)
   -- of the board's index
-  pub index : index_of board left.boards < length inst.stock
+  pub index : place_among board left.boards < length inst.stock
 
 module _ (inst : ProblemInstance) (a : Admitted inst) (ranged : Ranged inst) (h : BaselineGuillotineHeuristic) (left right : Words) (l : Stands inst [] left) (r : Stands inst [] right) (i : ℕ)
     (best : IsBestDonor (candidate_in inst right).bins i) where
@@ -177,10 +177,10 @@ module _ (inst : ProblemInstance) (a : Admitted inst) (ranged : Ranged inst) (h 
       mem_perm (perm_sym l.boards) (mem_perm r.boards (subst (Memᴰ board) (boards_split inst [] right r ranged) (Memᴰ.append_left (available_boards inst right) at.here)))
 
   abbrev j : ℕ
-  j = index_of board L
+  j = place_among board L
 
-  index_is : index_of board left.boards ≡ j
-  index_is = ap (index_of board) (sym (take-append-drop n left.boards)) ∙ index_append board L (drop n left.boards) listed
+  index_is : place_among board left.boards ≡ j
+  index_is = ap (place_among board) (sym (take-append-drop n left.boards)) ∙ index_append board L (drop n left.boards) listed
 
   inside : j < n
   inside = omega (arith, (indexed board L listed).0, length_all_boards inst [] left l ranged)
@@ -244,7 +244,7 @@ module _ (inst : ProblemInstance) (a : Admitted inst) (ranged : Ranged inst) (h 
   stock_found : find of_board (enumerate (full_stock (candidate_in inst left))) ≡ some (j, board_in inst board)
   stock_found =
       ap (λ (x : List StockInstance). find of_board (enumerate x)) full_stock_lem
-      ∙ find_row (board_in inst) board of_board L listed (all_map (λ b. b < n) (λ b. (k : ℕ) → of_board (k, board_in inst b) ≡ eqb b board) same_board L (boards_below inst [] left l ranged))
+      ∙ find_keyed (board_in inst) board of_board L listed (all_map (λ b. b < n) (λ b. (k : ℕ) → of_board (k, board_in inst b) ≡ eqb b board) same_board L (boards_below inst [] left l ranged))
 
   abbrev key_at : ℕ → InstanceKey
   key_at k = cut_key (get_or inst.cuts k no_cut)

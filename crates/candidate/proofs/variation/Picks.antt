@@ -20,16 +20,16 @@ use Rattle.candidate.proofs.Lists.{other_sym, perm_once}
 use Rattle.candidate.specs.Bins.{Other}
 use Rattle.candidate.specs.Keys.{elem}
 use Rattle.candidate.proofs.evaluation.KeyNumbers.{none_numbered}
-use Rattle.candidate.specs.Donated.{others_than, index_of}
+use Rattle.candidate.specs.Donated.{others_than, place_among}
 
 -- ---- an index
 
-index_head : (x y : ℕ) (l : List ℕ) → eqb y x ≡ true → index_of x (y ∷ l) ≡ 0
-unfolding index_of
+index_head : (x y : ℕ) (l : List ℕ) → eqb y x ≡ true → place_among x (y ∷ l) ≡ 0
+unfolding place_among
 index_head x y l e = rw e
 
-index_tail : (x y : ℕ) (l : List ℕ) → eqb y x ≡ false → index_of x (y ∷ l) ≡ suc (index_of x l)
-unfolding index_of
+index_tail : (x y : ℕ) (l : List ℕ) → eqb y x ≡ false → place_among x (y ∷ l) ≡ suc (place_among x l)
+unfolding place_among
 index_tail x y l e = rw e
 
 -- a number that is there is not at its first place: it is behind it
@@ -39,20 +39,20 @@ behind x y l e m = ⊎_elim (λ q. absurd (eqb-false y x e (sym q))) (λ k. k) (
 abbrev pub IsAt : ℕ → List ℕ → ℕ → Type 0
 IsAt x l k = (k < length l) × (get_or l k 0 ≡ x)
 
-pub indexed : (x : ℕ) (l : List ℕ) → Memᴰ x l → IsAt x l (index_of x l)
+pub indexed : (x : ℕ) (l : List ℕ) → Memᴰ x l → IsAt x l (place_among x l)
 indexed x [] m = absurd (Memᴰ.not-nil m)
 indexed x (y ∷ l) m = go (eqb y x) refl (indexed x l)
   where
-    go : (b : Bool) → eqb y x ≡ b → (Memᴰ x l → IsAt x l (index_of x l)) → IsAt x (y ∷ l) (index_of x (y ∷ l))
+    go : (b : Bool) → eqb y x ≡ b → (Memᴰ x l → IsAt x l (place_among x l)) → IsAt x (y ∷ l) (place_among x (y ∷ l))
     go true e later = subst (IsAt x (y ∷ l)) (sym (index_head x y l e)) (zero-lt-suc (length l), eqb-true y x e)
     go false e later = let k = later (behind x y l e m) in subst (IsAt x (y ∷ l)) (sym (index_tail x y l e)) (suc-le-suc k.0, k.1)
 
 -- what stands behind does not matter
-pub index_append : (x : ℕ) (l more : List ℕ) → Memᴰ x l → index_of x (l ++ more) ≡ index_of x l
+pub index_append : (x : ℕ) (l more : List ℕ) → Memᴰ x l → place_among x (l ++ more) ≡ place_among x l
 index_append x [] more m = absurd (Memᴰ.not-nil m)
 index_append x (y ∷ l) more m = go (eqb y x) refl (index_append x l more)
   where
-    go : (b : Bool) → eqb y x ≡ b → (Memᴰ x l → index_of x (l ++ more) ≡ index_of x l) → index_of x (y ∷ (l ++ more)) ≡ index_of x (y ∷ l)
+    go : (b : Bool) → eqb y x ≡ b → (Memᴰ x l → place_among x (l ++ more) ≡ place_among x l) → place_among x (y ∷ (l ++ more)) ≡ place_among x (y ∷ l)
     go true e later = index_head x y (l ++ more) e ∙ sym (index_head x y l e)
     go false e later = index_tail x y (l ++ more) e ∙ ap suc (later (behind x y l e m)) ∙ sym (index_tail x y l e)
 
@@ -61,22 +61,22 @@ index_append x (y ∷ l) more m = go (eqb y x) refl (index_append x l more)
 -- the rows of numbers, the test of a row being that of its number
 module _ {A : Type 0} (row : ℕ → A) (x : ℕ) (test : ℕ × A → Bool) where
   find_from : (i : ℕ) (l : List ℕ) → Memᴰ x l → All (λ y. (i : ℕ) → test (i, row y) ≡ eqb y x) l
-      → find test (enumerate_from i (map row l)) ≡ some (i + index_of x l, row x)
+      → find test (enumerate_from i (map row l)) ≡ some (i + place_among x l, row x)
   unfolding find enumerate_from
   find_from i [] m h = absurd (Memᴰ.not-nil m)
   find_from i (y ∷ l) m h = ap (λ (b : Bool). (if b then some (i, row y) else none) <|> find test (enumerate_from (suc i) (map row l))) (h.0 i) ∙ go (eqb y x) refl (λ k. find_from (suc i) l k h.1)
     where
-      go : (b : Bool) → eqb y x ≡ b → (Memᴰ x l → find test (enumerate_from (suc i) (map row l)) ≡ some (suc i + index_of x l, row x))
-          → ((if b then some (i, row y) else none) <|> find test (enumerate_from (suc i) (map row l))) ≡ some (i + index_of x (y ∷ l), row x)
+      go : (b : Bool) → eqb y x ≡ b → (Memᴰ x l → find test (enumerate_from (suc i) (map row l)) ≡ some (suc i + place_among x l, row x))
+          → ((if b then some (i, row y) else none) <|> find test (enumerate_from (suc i) (map row l))) ≡ some (i + place_among x (y ∷ l), row x)
       go true e later =
-          let at : i ≡ i + index_of x (y ∷ l) = omega (arith, index_head x y l e) in
+          let at : i ≡ i + place_among x (y ∷ l) = omega (arith, index_head x y l e) in
           ap₂ {C = Option (ℕ × A)} (λ (k : ℕ) (z : A). some (k, z)) at (ap row (eqb-true y x e))
       go false e later =
-          let at : suc i + index_of x l ≡ i + index_of x (y ∷ l) = omega (arith, index_tail x y l e) in
+          let at : suc i + place_among x l ≡ i + place_among x (y ∷ l) = omega (arith, index_tail x y l e) in
           later (behind x y l e m) ∙ ap (λ (k : ℕ). some (k, row x)) at
 
-  pub find_row : (l : List ℕ) → Memᴰ x l → All (λ y. (i : ℕ) → test (i, row y) ≡ eqb y x) l → find test (enumerate (map row l)) ≡ some (index_of x l, row x)
-  find_row l m h = let e : 0 + index_of x l ≡ index_of x l = omega arith in find_from 0 l m h ∙ ap (λ (k : ℕ). some (k, row x)) e
+  pub find_keyed : (l : List ℕ) → Memᴰ x l → All (λ y. (i : ℕ) → test (i, row y) ≡ eqb y x) l → find test (enumerate (map row l)) ≡ some (place_among x l, row x)
+  find_keyed l m h = let e : 0 + place_among x l ≡ place_among x l = omega arith in find_from 0 l m h ∙ ap (λ (k : ℕ). some (k, row x)) e
 
 -- ---- the numbers that are not among some
 

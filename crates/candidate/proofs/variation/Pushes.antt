@@ -23,7 +23,7 @@ use Rattle.candidate.specs.Moves.{with_insertion, with_unused}
 use Rattle.candidate.specs.Stands.{placed_words, unused_numbers}
 use Rattle.candidate.proofs.Makings.{on_same, on_other}
 use Rattle.candidate.specs.Keys.{elem}
-use Rattle.candidate.specs.Donated.{with_insertions, with_unused_cuts, anew, donated, others_than, index_of}
+use Rattle.candidate.specs.Donated.{with_insertions, with_unused_cuts, anew, donated, others_than, place_among}
 
 -- ---- the loop over the donor's insertions
 
@@ -95,13 +95,13 @@ module _ (k : Words) (ks : List ℕ) (i : ℕ) where
 
 -- ---- the place of a board
 
-index_next : (x y : ℕ) (ys : List ℕ) → index_of x (y ∷ ys) ≡ (if y == x then 0 else (1 + index_of x ys))
-unfolding index_of
-index_next x y ys = let one : suc (index_of x ys) ≡ 1 + index_of x ys = omega arith in ap (λ (n : ℕ). if y == x then 0 else n) one
+index_next : (x y : ℕ) (ys : List ℕ) → place_among x (y ∷ ys) ≡ (if y == x then 0 else (1 + place_among x ys))
+unfolding place_among
+index_next x y ys = let one : suc (place_among x ys) ≡ 1 + place_among x ys = omega arith in ap (λ (n : ℕ). if y == x then 0 else n) one
 
 -- `position` of the language
-pub position_is : (x : ℕ) (l : List ℕ) → index_of x l < length l → position (λ b. b == x) l ≡ Some (index_of x l)
-unfolding index_of
+pub position_is : (x : ℕ) (l : List ℕ) → place_among x l < length l → position (λ b. b == x) l ≡ Some (place_among x l)
+unfolding place_among
 position_is x l h =
-    let same : index_of x l ≡ position_or_len (λ b. b == x) l = is_position_or_len (index_of x) (λ b. b == x) refl (index_next x) l in
-    rw (← same) (rw (lt-ltb (index_of x l) (length l) h) refl)
+    let same : place_among x l ≡ position_or_len (λ b. b == x) l = is_position_or_len (place_among x) (λ b. b == x) refl (index_next x) l in
+    rw (← same) (rw (lt-ltb (place_among x l) (length l) h) refl)

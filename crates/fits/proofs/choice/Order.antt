@@ -10,7 +10,7 @@ use Rattle.lists.proofs.Language.{order_of_nat, order_of_then}
 use Rattle.fits.specs.declared.choice.Score.{Score}
 use Rattle.fits.specs.contracts.choice.ScorePartialOrd.TheImpl.{partial_cmp-value}
 use Rattle.fits.specs.contracts.choice.ScoreOrd.TheImpl.{cmp-value}
-use Rattle.fits.specs.Numbers.{numbers_of}
+use Rattle.fits.specs.Numbers.{score_numbers}
 
 total : (p q : Ordering) → partial_ordering_then (Some p) (Some q) ≡ Some (ordering_then p q)
 total Less q = refl
@@ -25,7 +25,7 @@ last Order.lt = refl
 last Order.eq = refl
 last Order.gt = refl
 
-by_numbers : (a b : Score) → order_of (cmp-value.it a b) ≡ lexicographic (numbers_of a) (numbers_of b)
+by_numbers : (a b : Score) → order_of (cmp-value.it a b) ≡ lexicographic (score_numbers a) (score_numbers b)
 unfolding lexicographic
 by_numbers a b = simp (order_of_then, order_of_nat, last)
 
@@ -34,5 +34,5 @@ no_less Less = refl
 no_less Equal = refl
 no_less Greater = refl
 
-pub not_lower : (a b : Score) → partial_ge partial_cmp-value.it a b ≡ not (is_less (lexicographic (numbers_of a) (numbers_of b)))
+pub not_lower : (a b : Score) → partial_ge partial_cmp-value.it a b ≡ not (is_less (lexicographic (score_numbers a) (score_numbers b)))
 not_lower a b = rw total_order (no_less (cmp-value.it a b) ∙ ap (λ (o : Order). not (is_less o)) (by_numbers a b))

@@ -23,7 +23,7 @@ use Rattle.model.specs.Plan.{preorder}
 use Rattle.guide.specs.declared.subtree.Node.{Node}
 use Rattle.guide.specs.Nodes.{node_of, tree_nodes}
 use Rattle.guide.proofs.subtree.Trees.{tree_nodes_cut, tree_nodes_leaf}
-use Rattle.guide.specs.Leaves.{is_free_leaf, size, Found, then_past, leaf_from, Onwards, Within, Ends, Finds}
+use Rattle.guide.specs.Leaves.{is_free_leaf, size, Reached, then_past, leaf_from, Onwards, Within, Searched, Finds}
 use Rattle.guide.proofs.free_leaf.Sizes.{size_cut}
 
 -- ---- equal rectangles, as `==` and as the definition compare them
@@ -42,7 +42,7 @@ same_rect_is a b = all_four (eqb a.x b.x) (eqb a.y b.y) (eqb a.width b.width) (e
 abbrev first_of : Rect → SliceNode → ℕ
 first_of target tree = position_or_len (is_free_leaf target) (tree_nodes tree)
 
-abbrev ended : ℕ → ℕ → ℕ → Found
+abbrev ended : ℕ → ℕ → ℕ → Reached
 ended at k m = cond (ltb k m) (Break (at + k)) (Continue (at + m))
 
 both_ended : (at ka sa kb sb : ℕ) → ka ≤ sa
@@ -96,7 +96,7 @@ places target at (leaf r free) = either (same_rect r target)
     either false = refl
 places target at (leaf r (cut_piece key)) = refl
 
-abbrev PastIs : ℕ → Found → Type 0
+abbrev PastIs : ℕ → Reached → Type 0
 PastIs m (Break i) = Unit {0}
 PastIs m (Continue j) = j ≡ m
 
@@ -139,7 +139,7 @@ module _ (nodes : List Node) (at : ℕ) (target : Rect) where
     nodes_behind : drop (at + 1) nodes ≡ rest
     nodes_behind = sym (drop-drop 1 at nodes) ∙ ap (drop 1) e
 
-  pub ends_past : length nodes ≤ at → Ends nodes at target (Continue at)
+  pub ends_past : length nodes ≤ at → Searched nodes at target (Continue at)
   ends_past h = record { onwards = omega arith; ends = go }
     where
       go : (t : SliceNode) (rest : List Node) → drop at nodes ≡ tree_nodes t ++ rest → Continue at ≡ leaf_from target at t
@@ -152,7 +152,7 @@ module _ (nodes : List Node) (at : ℕ) (target : Rect) where
 
     -- no cut
     ends_leaf : at < length nodes → ((work : Rect) (o : Direction) (offset kerf : ℕ) → n ≡ Node.Cut work o offset kerf → ⊥) → (b : Bool) → b ≡ is_free_leaf target n
-        → Ends nodes at target (if b then Break at else Continue (at + 1))
+        → Searched nodes at target (if b then Break at else Continue (at + 1))
     ends_leaf h other b f = record { onwards = onwards b; ends = go }
       where
         onwards : (b : Bool) → Onwards nodes at (if b then Break at else Continue (at + 1))
@@ -165,11 +165,11 @@ module _ (nodes : List Node) (at : ℕ) (target : Rect) where
             ap (λ (t : Bool). if t then Break at else Continue (at + 1)) (f ∙ ap (is_free_leaf target) (is_first _ _ (e ∙ leaf_front r k rest)))
             ∙ leaf_search target at r k
 
-    pub ends_at : at < length nodes → ((work : Rect) (o : Direction) (offset kerf : ℕ) → n ≡ Node.Cut work o offset kerf → ⊥) → true ≡ is_free_leaf target n → Ends nodes at target (Break at)
+    pub ends_at : at < length nodes → ((work : Rect) (o : Direction) (offset kerf : ℕ) → n ≡ Node.Cut work o offset kerf → ⊥) → true ≡ is_free_leaf target n → Searched nodes at target (Break at)
     ends_at h other f = ends_leaf h other true f
 
     pub ends_behind : at < length nodes → ((work : Rect) (o : Direction) (offset kerf : ℕ) → n ≡ Node.Cut work o offset kerf → ⊥) → false ≡ is_free_leaf target n
-        → Ends nodes at target (Continue (at + 1))
+        → Searched nodes at target (Continue (at + 1))
     ends_behind h other f = ends_leaf h other false f
 
     -- a cut
@@ -178,20 +178,20 @@ module _ (nodes : List Node) (at : ℕ) (target : Rect) where
       no_leaf r free rest e = (let other = sym f ∙ is_first _ _ (e ∙ leaf_front r free rest) in cc)
       no_leaf r (cut_piece key) rest e = (let other = sym f ∙ is_first _ _ (e ∙ leaf_front r (cut_piece key) rest) in cc)
 
-      pub ends_first : (i : ℕ) → Ends nodes (at + 1) target (Break i) → Ends nodes at target (Break i)
+      pub ends_first : (i : ℕ) → Searched nodes (at + 1) target (Break i) → Searched nodes at target (Break i)
       unfolding leaf_from
       ends_first i first = record { onwards = first.onwards; ends = go }
         where
           go : (t : SliceNode) (rest : List Node) → drop at nodes ≡ tree_nodes t ++ rest → Break i ≡ leaf_from target at t
           go (cut c a b) rest e =
-              ap (λ (o : Found). then_past o (λ next. leaf_from target next b)) (first.ends a (tree_nodes b ++ rest) (nodes_behind _ _ (e ∙ cut_front c a b rest)))
+              ap (λ (o : Reached). then_past o (λ next. leaf_from target next b)) (first.ends a (tree_nodes b ++ rest) (nodes_behind _ _ (e ∙ cut_front c a b rest)))
           go (leaf r k) rest e = absurd (no_leaf r k rest e)
 
-      pub ends_second : (next : ℕ) (second : Found) → Ends nodes (at + 1) target (Continue next) → Ends nodes next target second → Ends nodes at target second
+      pub ends_second : (next : ℕ) (second : Reached) → Searched nodes (at + 1) target (Continue next) → Searched nodes next target second → Searched nodes at target second
       unfolding leaf_from
       ends_second next second first behind = record { onwards = onwards second behind.onwards; ends = go }
         where
-          onwards : (o : Found) → Onwards nodes next o → Onwards nodes at o
+          onwards : (o : Reached) → Onwards nodes next o → Onwards nodes at o
           onwards (Break i) h = h
           onwards (Continue j) h = (let le = first.onwards in omega arith)
 
@@ -204,16 +204,16 @@ module _ (nodes : List Node) (at : ℕ) (target : Rect) where
               ap (λ (m : ℕ). drop m nodes) past ∙ sym (drop-drop (size a) (at + 1) nodes) ∙ ap (drop (size a)) children
               ∙ drop_at (tree_nodes a) (tree_nodes b ++ rest) (size a) refl
               in
-              behind.ends b rest there ∙ ap (λ (o : Found). then_past o (λ next. leaf_from target next b)) searched
+              behind.ends b rest there ∙ ap (λ (o : Reached). then_past o (λ next. leaf_from target next b)) searched
           go (leaf r k) rest e = absurd (no_leaf r k rest e)
 
 -- ---- what the whole search finds
 
-pub within : (nodes : List Node) (at : ℕ) (found : Found) → Onwards nodes at found → Within nodes (break_value found)
+pub within : (nodes : List Node) (at : ℕ) (found : Reached) → Onwards nodes at found → Within nodes (break_value found)
 within nodes at (Break i) h = h
 within nodes at (Continue j) h = tt
 
-pub finds : (nodes : List Node) (target : Rect) (found : Found) → Ends nodes 0 target found → Finds nodes target (break_value found)
+pub finds : (nodes : List Node) (target : Rect) (found : Reached) → Searched nodes 0 target found → Finds nodes target (break_value found)
 finds nodes target found e =
     record {
       within = within nodes 0 found e.onwards;

@@ -26,7 +26,7 @@ use Rattle.guide.proofs.subtree.Trees.{nodes_words}
 use Rattle.guide.specs.Saws as saws
 use Rattle.guide.proofs.saw.Saws.{saw_is}
 use Rattle.plan.specs.declared.sheet_plan.Progress.{Progress}
-use Rattle.plan.specs.Rows.{head_words}
+use Rattle.plan.specs.Heads.{head_words}
 use Rattle.plan.specs.Replaying.{Replayed, WritesSheet, Finishable}
 
 -- ---- the words by their parts

@@ -25,7 +25,7 @@ use Rattle.candidate.specs.Entries.{board_of, cut_of, on_board}
 use Rattle.candidate.specs.Stands.{insertion_in, making_in, bin_in}
 use Rattle.project.specs.Problem.{board_in, cut_in, no_stock, no_cut}
 use Rattle.candidate.proofs.Makings.{on_none, rebuilt_bin, bin_bare, bin_other, rebuilt_more}
-use Rattle.plan.specs.Replaying.{Rebuildable}
+use Rattle.plan.specs.Replaying.{Replayable}
 
 -- each insertion is a piece more
 fold_count : (kerf : ℕ) (making : List Insertion) (s t : GuillotineSheet) → fold_option (try_insert kerf) s making ≡ some t
@@ -93,12 +93,12 @@ none_placed : (stock : StockInstance) → length (new_sheet stock).placed_pieces
 unfolding new_sheet
 none_placed stock = refl
 
-module _ (inst : ProblemInstance) (words : List ℕ) (b : ℕ) (m : Rebuildable inst words b) where
+module _ (inst : ProblemInstance) (words : List ℕ) (b : ℕ) (m : Replayable inst words b) where
   -- its first insertions
   parted : (i : ℕ) → Begun inst b (take i words) (drop i words)
   parted i = begun inst b (take i words) (drop i words) (rw (take-append-drop i words) m.rebuilt)
 
-  pub begins : (i : ℕ) → Rebuildable inst (take i words) b
+  pub begins : (i : ℕ) → Replayable inst (take i words) b
   begins i =
       record {
         few = omega (arith, length-take i words, m.few);

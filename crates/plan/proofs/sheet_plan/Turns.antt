@@ -26,12 +26,12 @@ use Rattle.trust.proofs.Bounded.{Bounded}
 use Rattle.sheet.specs.declared.Inserted.{Inserted}
 use Rattle.sheet.specs.Places.{Shows}
 use Rattle.sheet.specs.Insertions.{Insertable, InsertsInto, Inserts}
-use Rattle.candidate.specs.Entries.{board_of, cut_of, row_of}
+use Rattle.candidate.specs.Entries.{board_of, cut_of, heuristic_of}
 use Rattle.candidate.specs.Stands.{insertion_in, bin_in}
 use Rattle.project.specs.Problem.{board_in, cut_in, no_cut}
 use Rattle.guide.specs.declared.subtree.Node.{Node}
 use Rattle.plan.specs.declared.sheet_plan.Progress.{Progress}
-use Rattle.plan.specs.Replaying.{new_pieces, Replayed, Rebuildable, Takeable, Takes, TakeableIn, TakesIn, ReplaysWord, ReplaysSheet, Finishable}
+use Rattle.plan.specs.Replaying.{new_pieces, Replayed, Replayable, Takeable, Takes, TakeableIn, TakesIn, ReplaysWord, ReplaysSheet, Finishable}
 use Rattle.plan.proofs.sheet_plan.Making.{begins, bin_pieces, begun_pieces, bin_board, bin_bounded, step_on, step_off, kept_pieces, cut_known, first_bin}
 use Rattle.plan.proofs.sheet_plan.Steps.{no_piece, insertable, not_nothing, takeable, written, replayed, pieces_more}
 
@@ -50,7 +50,7 @@ takes_in kerf cut h p l l' g g' q (Some i) takes Goal by = by i.index i.free_rec
 
 -- ---- one insertion
 
-module _ (inst : ProblemInstance) (words : List ℕ) (b : ℕ) (m : Rebuildable inst words b) (i : ℕ) (h : i < length words)
+module _ (inst : ProblemInstance) (words : List ℕ) (b : ℕ) (m : Replayable inst words b) (i : ℕ) (h : i < length words)
     (w : List Rect) (g : List Node) (p : Progress) (state : Replayed inst.kerf_width (bin_in inst (take i words) b) w g p) where
   abbrev s : GuillotineSheet
   s = bin_in inst (take i words) b
@@ -81,7 +81,7 @@ module _ (inst : ProblemInstance) (words : List ℕ) (b : ℕ) (m : Rebuildable 
     ready = insertable inst.kerf_width s t (insertion_in inst word) w g p state bounded (step_on inst words b m i h on) few
 
     module _ (pattern : PatternDirection) (cut : CutInstance) (row : BaselineGuillotineHeuristic)
-        (grain : pattern ≡ (board_in inst b).pattern) (known : cut ≡ cut_in inst (cut_of word)) (way : row ≡ row_of word) where
+        (grain : pattern ≡ (board_in inst b).pattern) (known : cut ≡ cut_in inst (cut_of word)) (way : row ≡ heuristic_of word) where
       insertion : Insertion
       insertion = record { cut = cut; heuristic = row }
 
@@ -129,7 +129,7 @@ module _ (inst : ProblemInstance) (words : List ℕ) (b : ℕ) (m : Rebuildable 
 
 -- ---- the whole making
 
-module _ (inst : ProblemInstance) (words : List ℕ) (b : ℕ) (m : Rebuildable inst words b) (l₀ : List ℕ) where
+module _ (inst : ProblemInstance) (words : List ℕ) (b : ℕ) (m : Replayable inst words b) (l₀ : List ℕ) where
   bare_pieces : (stock : StockInstance) → l₀ ≡ patch l₀ 0 (concat_map piece_words (new_sheet stock).placed_pieces)
   unfolding new_sheet concat_map
   bare_pieces stock = patch_nil l₀ 0
@@ -149,7 +149,7 @@ module _ (inst : ProblemInstance) (words : List ℕ) (b : ℕ) (m : Rebuildable 
       }
 
 -- what follows the pieces can be written
-pub finishable : (inst : ProblemInstance) → Ranged inst → (words : List ℕ) (b : ℕ) → Rebuildable inst words b → (part : List ℕ) (w : List Rect) (g : List Node) (p : Progress) (stock : StockInstance)
+pub finishable : (inst : ProblemInstance) → Ranged inst → (words : List ℕ) (b : ℕ) → Replayable inst words b → (part : List ℕ) (w : List Rect) (g : List Node) (p : Progress) (stock : StockInstance)
     → stock ≡ board_in inst b → Replayed inst.kerf_width (bin_in inst words b) w g p → length (sheet_words (bin_in inst words b)) ≤ length part → Finishable part w g stock p
 finishable inst r words b m part w g p stock e state room =
     record {

@@ -19,7 +19,7 @@ use Rattle.lists.proofs.Counts.{count_snoc}
 use Rattle.model.specs.declared.PatternDirection.{PatternDirection}
 use Rattle.model.specs.declared.StockInstance.{StockInstance}
 use Rattle.model.specs.Types.{pattern_of}
-use Rattle.model.specs.Project.{Piece, project_of, record_length}
+use Rattle.model.specs.Project.{Record, project_of, record_length}
 use Rattle.model.specs.Refusal.{Check, RecordRule, stock_rule, cut_rule, record_checks, settings_checks, whole_checks, project_checks, file_refusal, total_quantity}
 use Rattle.model.specs.Expand.{compare_stock, stock_instances, cut_instances, expand_project}
 use Rattle.trust.proofs.Checks.{file_passed}
@@ -62,12 +62,12 @@ module _ {T : Type 0} (make : ℕ → T) (old : List T) (n : ℕ) where
 
 -- ---- the records of a body, one more
 
-module _ {T : Type 0} (make : Piece → ℕ → T) where
-  made_count : (p : Piece) → length (made_of make p) ≡ p.quantity
+module _ {T : Type 0} (make : Record → ℕ → T) where
+  made_count : (p : Record) → length (made_of make p) ≡ p.quantity
   made_count p = length-map (make p) (range p.quantity) ∙ length_count_from 0 p.quantity
 
   -- instances are as many as the quantities say
-  pub count_made : (ps : List Piece) → length (concat_map (made_of make) ps) ≡ total_quantity ps
+  pub count_made : (ps : List Record) → length (concat_map (made_of make) ps) ≡ total_quantity ps
   count_made = length_counted (λ p. p.quantity) (made_of make) made_count
 
   module _ (body : List ℕ) where
@@ -83,10 +83,10 @@ module _ {T : Type 0} (make : Piece → ℕ → T) where
     unfolding concat_map
     making_next xs i h m =
         append_assoc xs (made_of make (record_at body i)) (concat_map (made_of make) (left body (i + 1)))
-        ∙ ap (λ (ps : List Piece). xs ++ concat_map (made_of make) ps) (sym (left_next body i h))
+        ∙ ap (λ (ps : List Record). xs ++ concat_map (made_of make) ps) (sym (left_next body i h))
         ∙ m
 
-    pub making_room : (xs : List T) (i : ℕ) (p : Piece) → p ≡ record_at body i → i < length body / record_length → total_quantity (records body) ≤ 64 → Making xs i → length xs + p.quantity ≤ 64
+    pub making_room : (xs : List T) (i : ℕ) (p : Record) → p ≡ record_at body i → i < length body / record_length → total_quantity (records body) ≤ 64 → Making xs i → length xs + p.quantity ≤ 64
     making_room xs i p e h few m =
         let here : List T = made_of make (record_at body i) in
         let later : List T = concat_map (made_of make) (left body (i + 1)) in
@@ -96,25 +96,25 @@ module _ {T : Type 0} (make : Piece → ℕ → T) where
           length-append (xs ++ here) later,
           length-append xs here,
           made_count (record_at body i),
-          ap (λ (q : Piece). q.quantity) e,
+          ap (λ (q : Record). q.quantity) e,
           count_made (records body),
         )
 
-    pub making_step : (xs ys : List T) (i : ℕ) (p : Piece) → p ≡ record_at body i → i < length body / record_length → Making xs i → ys ≡ xs ++ made_of make p → Making ys (i + 1)
+    pub making_step : (xs ys : List T) (i : ℕ) (p : Record) → p ≡ record_at body i → i < length body / record_length → Making xs i → ys ≡ xs ++ made_of make p → Making ys (i + 1)
     making_step xs ys i p e h m f =
-        ap (λ (l : List T). l ++ concat_map (made_of make) (left body (i + 1))) (f ∙ ap (λ (q : Piece). xs ++ made_of make q) e) ∙ making_next xs i h m
+        ap (λ (l : List T). l ++ concat_map (made_of make) (left body (i + 1))) (f ∙ ap (λ (q : Record). xs ++ made_of make q) e) ∙ making_next xs i h m
 
     pub making_end : (xs : List T) (i : ℕ) → length body / record_length ≤ i → Making xs i → xs ≡ concat_map (made_of make) (records body)
     unfolding concat_map
-    making_end xs i h m = sym (append-nil xs) ∙ ap (λ (ps : List Piece). xs ++ concat_map (made_of make) ps) (sym (left_none body i h)) ∙ m
+    making_end xs i h m = sym (append-nil xs) ∙ ap (λ (ps : List Record). xs ++ concat_map (made_of make) ps) (sym (left_none body i h)) ∙ m
 
 -- ---- what the checks leave: at most 64 instances of a kind
 
 -- a rule that bounds the instances up to a record
 abbrev Bounds : RecordRule → Type 0
-Bounds rule = (seen : List ℕ) (count : ℕ) (p : Piece) → All (λ c. c.1 ≡ false) (rule seen count p) → count + p.quantity ≤ 64
+Bounds rule = (seen : List ℕ) (count : ℕ) (p : Record) → All (λ c. c.1 ≡ false) (rule seen count p) → count + p.quantity ≤ 64
 
-few : (rule : RecordRule) → Bounds rule → (seen : List ℕ) (count : ℕ) (ps : List Piece) → count ≤ 64
+few : (rule : RecordRule) → Bounds rule → (seen : List ℕ) (count : ℕ) (ps : List Record) → count ≤ 64
     → All (λ c. c.1 ≡ false) (record_checks rule seen count ps) → count + total_quantity ps ≤ 64
 unfolding record_checks sum
 few rule f seen count [] h k = omega arith
@@ -148,16 +148,16 @@ module _ (bytes : List ℕ) (e : file_refusal bytes ≡ none) where
       let h = all_right (λ c. c.1 ≡ false) (record_checks stock_rule [] 0 p.stock) (record_checks cut_rule [] 0 p.cuts ++ whole_checks p) after_settings in
       omega (arith, few cut_rule cut_bounds [] 0 p.cuts (lit≤ tt) (all_left (λ c. c.1 ≡ false) (record_checks cut_rule [] 0 p.cuts) (whole_checks p) h))
 
-pub few_records : (ps : List Piece) {qs : List Piece} → ps ≡ qs → total_quantity qs ≤ 64 → total_quantity ps ≤ 64
+pub few_records : (ps : List Record) {qs : List Record} → ps ≡ qs → total_quantity qs ≤ 64 → total_quantity ps ≤ 64
 few_records ps e h = rw e h
 
 -- ---- what a file's project is expanded to
 
-pub stock_expanded : (bytes : List ℕ) (ps : List Piece) → ps ≡ (project_of bytes).stock → sort_by compare_stock (concat_map (made_of stock_instance) ps) ≡ (expand_project (project_of bytes)).stock
+pub stock_expanded : (bytes : List ℕ) (ps : List Record) → ps ≡ (project_of bytes).stock → sort_by compare_stock (concat_map (made_of stock_instance) ps) ≡ (expand_project (project_of bytes)).stock
 unfolding expand_project stock_instances
-stock_expanded bytes ps e = ap (λ (qs : List Piece). sort_by compare_stock (concat_map (made_of stock_instance) qs)) e
+stock_expanded bytes ps e = ap (λ (qs : List Record). sort_by compare_stock (concat_map (made_of stock_instance) qs)) e
 
-pub cuts_expanded : (bytes : List ℕ) (ps : List Piece) → ps ≡ (project_of bytes).cuts → concat_map (made_of cut_instance) ps ≡ (expand_project (project_of bytes)).cuts
+pub cuts_expanded : (bytes : List ℕ) (ps : List Record) → ps ≡ (project_of bytes).cuts → concat_map (made_of cut_instance) ps ≡ (expand_project (project_of bytes)).cuts
 unfolding expand_project cut_instances
 cuts_expanded bytes ps e = ap (concat_map (made_of cut_instance)) e
 

@@ -1,7 +1,7 @@
 -- `project::record_at` meets its contract.
-use Rattle.model.specs.Project.{piece_at}
+use Rattle.model.specs.Project.{read_record}
 use Rattle.project.proofs.record_at.Goals as goal
 
 pub returns : goal.returns
-unfolding piece_at
+unfolding read_record
 returns c = rw (c.number_2.ensures, c.number_1-2.ensures, c.number_1.ensures, c.number_4-3.ensures, c.number_4-2.ensures, c.number_4.ensures, c.number_8.ensures)

@@ -15,7 +15,7 @@ use lib.Seq.{drop-cons}
 use borrow.Author.Tests.{eqb-false}
 use Rattle.std.proofs.lemmas.List.{drop_all}
 use Rattle.lists.specs.Base.{◌<|>◌, any}
-use Rattle.model.specs.Project.{Piece, Project, record_length}
+use Rattle.model.specs.Project.{Record, Project, record_length}
 use Rattle.model.specs.Refusal.{Check, first_that_applies, bad_codes, zero_side, large_side, unlimited, RecordRule, stock_rule, cut_rule, record_checks, most_side, settings_checks}
 use Rattle.project.specs.Records.{record_at, records}
 use Rattle.project.proofs.Records.{left, left_all, left_next, left_none}
@@ -44,15 +44,15 @@ module _ (checks : List (Language.Option Refusal)) (k : ℕ) where
 pub ruleset table = (check_applies, check_passes, no_check)
 
 -- a check's refusal where its condition holds, as in the definition's row
-pub check_row : (b : Bool) (r : Refusal) (o : Language.Option Refusal) (checks : List (Language.Option Refusal)) (rows : List Check)
-    → o ≡ then_some b r → first_given checks ≡ first_that_applies rows → first_given (o ∷ checks) ≡ first_that_applies ((refusal_number r, b) ∷ rows)
+pub next_check : (b : Bool) (r : Refusal) (o : Language.Option Refusal) (checks : List (Language.Option Refusal)) (conditions : List Check)
+    → o ≡ then_some b r → first_given checks ≡ first_that_applies conditions → first_given (o ∷ checks) ≡ first_that_applies ((refusal_number r, b) ∷ conditions)
 unfolding first_given first_that_applies
-check_row true r o checks rows e f = rw e refl
-check_row false r o checks rows e f = rw e f
+next_check true r o checks conditions e f = rw e refl
+next_check false r o checks conditions e f = rw e f
 
-pub no_rows : first_given [] ≡ first_that_applies []
+pub no_checks : first_given [] ≡ first_that_applies []
 unfolding first_given first_that_applies
-no_rows = refl
+no_checks = refl
 
 -- ---- an id among those before
 
@@ -81,21 +81,21 @@ module _ (body : List ℕ) (id : ℕ) where
       go true f later = refl
       go false f later = later (λ g. eqb-false id (record_at body i).id f (e ∙ ap (λ (j : ℕ). (record_at body j).id) g))
 
--- ---- the rows of a record from what the code finds of it
+-- ---- the conditions of a record from what the code finds of it
 
-module _ (p q : Piece) (seen : List ℕ) (count more : ℕ) (codes zero large used : Bool)
+module _ (p q : Record) (seen : List ℕ) (count more : ℕ) (codes zero large used : Bool)
     (same : p ≡ q) (more_is : more ≡ p.quantity) (zero_is : zero ≡ zero_side p) (large_is : large ≡ large_side p) (used_is : used ≡ any (eqb p.id) seen) where
-  pub stock_rows : codes ≡ (bad_codes p || (unlimited p && not (eqb p.quantity 0)))
+  pub stock_checked : codes ≡ (bad_codes p || (unlimited p && not (eqb p.quantity 0)))
       → first_that_applies ((5, codes) ∷ (6, zero) ∷ (7, large) ∷ (8, eqb p.flag 0) ∷ (9, used) ∷ (10, ltb 64 (count + more)) ∷ []) ≡ first_that_applies (stock_rule seen count q)
   unfolding stock_rule
-  stock_rows codes-is =
-      rw (codes-is, zero_is, large_is, used_is, more_is) (ap (λ (r : Piece). first_that_applies (stock_rule seen count r)) same)
+  stock_checked codes-is =
+      rw (codes-is, zero_is, large_is, used_is, more_is) (ap (λ (r : Record). first_that_applies (stock_rule seen count r)) same)
 
-  pub cut_rows : codes ≡ bad_codes p
+  pub cut_checked : codes ≡ bad_codes p
       → first_that_applies ((5, codes) ∷ (6, zero) ∷ (7, large) ∷ (11, eqb p.quantity 0) ∷ (9, used) ∷ (12, ltb 64 (count + more)) ∷ []) ≡ first_that_applies (cut_rule seen count q)
   unfolding cut_rule
-  cut_rows codes-is =
-      rw (codes-is, zero_is, large_is, used_is, more_is) (ap (λ (r : Piece). first_that_applies (cut_rule seen count r)) same)
+  cut_checked codes-is =
+      rw (codes-is, zero_is, large_is, used_is, more_is) (ap (λ (r : Record). first_that_applies (cut_rule seen count r)) same)
 
 -- ---- tables one behind the other
 
@@ -119,7 +119,7 @@ module _ (body : List ℕ) (rule : RecordRule) where
 
   pub rest_all : rest 0 0 ≡ first_that_applies (record_checks rule [] 0 (records body))
   unfolding ids_before
-  rest_all = ap (λ (ps : List Piece). first_that_applies (record_checks rule [] 0 ps)) (left_all body)
+  rest_all = ap (λ (ps : List Record). first_that_applies (record_checks rule [] 0 ps)) (left_all body)
 
   abbrev pub own : ℕ → ℕ → Option ℕ
   own i count = first_that_applies (rule (ids_before body i) count (record_at body i))
@@ -127,18 +127,18 @@ module _ (body : List ℕ) (rule : RecordRule) where
   pub rest_next : (i count : ℕ) → i < length body / record_length → rest i count ≡ (own i count <|> rest (i + 1) (count + (record_at body i).quantity))
   unfolding record_checks ids_before
   rest_next i count h =
-      let p : Piece = record_at body i in
-      ap (λ (ps : List Piece). first_that_applies (record_checks rule (ids_before body i) count ps)) (left_next body i h)
+      let p : Record = record_at body i in
+      ap (λ (ps : List Record). first_that_applies (record_checks rule (ids_before body i) count ps)) (left_next body i h)
       ∙ rows_append (rule (ids_before body i) count p) (record_checks rule (p.id ∷ ids_before body i) (count + p.quantity) (left body (i + 1)))
       ∙ ap (λ (k : ℕ). own i count <|> first_that_applies (record_checks rule (ids_before body k) (count + p.quantity) (left body (i + 1)))) (sym (add-one i))
 
   pub rest_none : (i count : ℕ) → length body / record_length ≤ i → rest i count ≡ none
   unfolding record_checks first_that_applies
-  rest_none i count h = ap (λ (ps : List Piece). first_that_applies (record_checks rule (ids_before body i) count ps)) (left_none body i h)
+  rest_none i count h = ap (λ (ps : List Record). first_that_applies (record_checks rule (ids_before body i) count ps)) (left_none body i h)
 
 -- ---- the settings
 
-pub settings_rows : (p : Project) (bad : Bool) (kerf : ℕ) → bad ≡ bad_settings p → kerf ≡ p.kerf
+pub settings_checked : (p : Project) (bad : Bool) (kerf : ℕ) → bad ≡ bad_settings p → kerf ≡ p.kerf
     → first_that_applies ((3, bad) ∷ (4, ltb most_side kerf) ∷ []) ≡ first_that_applies (settings_checks p)
 unfolding settings_checks
-settings_rows p bad kerf e f = rw (e, f)
+settings_checked p bad kerf e f = rw (e, f)

@@ -10,7 +10,7 @@ use lib.ListN.{length}
 use borrow.Author.Tests.{eq-eqb, ne_eqb}
 use Rattle.lists.proofs.Booleans.{and_true}
 use Rattle.lists.specs.Base.{◌<|>◌, count_from, is_empty}
-use Rattle.model.specs.Project.{Piece, Project, record_length, project_of, well_formed}
+use Rattle.model.specs.Project.{Record, Project, record_length, project_of, well_formed}
 use Rattle.model.specs.Refusal.{Check, first_that_applies, stock_rule, cut_rule, settings_checks, record_checks, total_quantity, whole_checks, project_checks, file_checks, file_refusal}
 use Rattle.project.specs.Records.{records_from, records}
 use Rattle.project.proofs.Shape.{file_refused}
@@ -19,7 +19,7 @@ use Rattle.project.proofs.refusals.Checks.{rows_append}
 -- ---- the checks after all records
 
 -- no records are no cuts
-pub cuts_empty : (body : List ℕ) (n : ℕ) (ps : List Piece) → records body ≡ ps → n ≡ length body / record_length → is_empty ps ≡ eqb n 0
+pub cuts_empty : (body : List ℕ) (n : ℕ) (ps : List Record) → records body ≡ ps → n ≡ length body / record_length → is_empty ps ≡ eqb n 0
 unfolding count_from
 cuts_empty body n ps e f = ap is_empty (sym e) ∙ empty_is (length body / record_length) ∙ ap (λ (m : ℕ). eqb m 0) (sym f)
   where

@@ -3,10 +3,10 @@ use Prim.Native.Nat.{ℕ}
 use native.Mathlib.Omega.{arith}
 use mathlib.Core.Path.{◌≡◌, subst}
 use mathlib.Core.List.{[]}
-use Rattle.search.specs.Rows.{numbers_of}
+use Rattle.search.specs.Numbers.{numbers_of}
 use Rattle.search.specs.Seeds.{IsSeed}
 use Rattle.search.proofs.seeds.Nth.{seeds_length}
-use Rattle.search.specs.Populations.{Holds}
+use Rattle.search.specs.Populations.{Stores}
 use Rattle.search.proofs.Firsts.{firsts_all, in_order, StoredTo, stored_none, stored_step}
 use Rattle.search.proofs.initial_population.Goals as goal
 use Rattle.search.proofs.initial_population.Goals.{After-initial_candidate_seed-seed}
@@ -41,4 +41,4 @@ returns c =
     let count : ℕ = c.seed_count-count.result in
     let done : c.loop-k.k ≡ count = omega arith in
     let all : StoredTo rows inst n c.args.ws.now count c.loop-k.ws = subst (λ (k : ℕ). StoredTo rows inst n c.args.ws.now k c.loop-k.ws) done c.loop-k.invariant in
-    (subst (Holds inst c.loop-k.ws 0 count) (firsts_all rows inst n count (omega (arith, c.seed_count-count.ensures.0 inst.cuts))) all.holds, all.only, c.seed_count-count.ensures.1)
+    (subst (Stores inst c.loop-k.ws 0 count) (firsts_all rows inst n count (omega (arith, c.seed_count-count.ensures.0 inst.cuts))) all.holds, all.only, c.seed_count-count.ensures.1)

@@ -1,5 +1,5 @@
 -- `search::initial_population` meets its contract: the candidates of the first k seeds are stored.
-use Rattle.search.specs.Rows.{numbers_of}
+use Rattle.search.specs.Numbers.{numbers_of}
 use Rattle.search.proofs.Firsts.{StoredTo}
 use Rattle.search.proofs.initial_population.Given as goal
 

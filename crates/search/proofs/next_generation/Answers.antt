@@ -4,7 +4,7 @@ use native.Mathlib.Omega.{arith}
 use mathlib.Core.Path.{refl, subst}
 use mathlib.Core.List.{List}
 use Rattle.model.specs.Expand.{ProblemInstance}
-use Rattle.search.specs.Populations.{population_in, Holds}
+use Rattle.search.specs.Populations.{population_in, Stores}
 use Rattle.search.proofs.stored.Populations.{only_wider, only_then}
 use Rattle.search.proofs.Rounds.{region_most, generation_is}
 use Rattle.search.proofs.next_generation.Goals as goal
@@ -20,7 +20,7 @@ returns c =
     let ws₃ : List ℕ = c.survival_generation-count.new.ws in
     let size : ℕ = c.crossover_population-count.result in
     let low : base ≤ 48 = region_most base c.requires.2 in (
-      subst (Holds inst ws₃ (48 - base) c.survival_generation-count.result)
+      subst (Stores inst ws₃ (48 - base) c.survival_generation-count.result)
           (generation_is inst c.args.h c.args.survivors (population_in inst ws₀ base parents) (population_in inst ws₁ base size) (population_in inst ws₂ base size) c.crossover_population-count.ensures.0.is c.improve_population.ensures.0.is) c.survival_generation-count.ensures.0,
       refl,
       only_then 0 96 ws₀ ws₁ ws₃ (only_wider (base + parents) (base + 48) ws₀ ws₁ c.crossover_population-count.ensures.1 0 96 (omega arith) (omega arith))

@@ -18,7 +18,7 @@ use Rattle.generator.specs.Shuffle.{shuffled}
 use Rattle.generator.proofs.shuffle.Shuffle.{shuffled_perm, shuffled_keys}
 use Rattle.project.specs.Problem.{cut_in}
 use Rattle.search.specs.declared.seeds.SearchNumbers.{SearchNumbers}
-use Rattle.search.specs.Rows.{numbers_of, sorted_seeds}
+use Rattle.search.specs.Numbers.{numbers_of, sorted_seeds}
 use Rattle.search.specs.Seeds.{seed_in, InOrder, no_seed, IsSeed}
 
 -- ---- the seeds in two parts

@@ -22,7 +22,7 @@ use Rattle.fits.specs.ByWays.{fits_by_ways}
 use Rattle.fits.proofs.Orientations.{any_way, fits_by_ways_all}
 use Rattle.fits.specs.declared.choice.Score.{Score}
 use Rattle.fits.specs.contracts.choice.ScorePartialOrd.TheImpl.{partial_cmp-value}
-use Rattle.fits.specs.Numbers.{numbers_of}
+use Rattle.fits.specs.Numbers.{score_numbers}
 use Rattle.fits.proofs.choice.Order.{not_lower}
 use Rattle.sheet.specs.declared.best_place.ScoredPlace.{ScoredPlace}
 use Rattle.sheet.specs.Places.{LiesIn, IsNextFit, place_at, places_by_ways, best_over, place_of, Scored, Over, FindsBest}
@@ -70,7 +70,7 @@ module _ (h : BaselineGuillotineHeuristic) where
         scored = q.scored;
       }
 
-  module _ (i : ℕ) (r : Rect) (f : FitResult) (s : Score) (e : numbers_of s ≡ free_rect_choice_score r f.rect h.rect_choice) where
+  module _ (i : ℕ) (r : Rect) (f : FitResult) (s : Score) (e : score_numbers s ≡ free_rect_choice_score r f.rect h.rect_choice) where
     abbrev pub taken : Option ScoredPlace
     taken = Some (record { index = i; free_rect = r; fit = f; score = s })
 
@@ -81,7 +81,7 @@ module _ (h : BaselineGuillotineHeuristic) where
 
     -- a further one, if its score is lower
     module _ (p : ScoredPlace) (k : Scored h (Some p)) where
-      less_is : (b : Bool) → is_less (lexicographic (numbers_of s) (numbers_of p.score)) ≡ b → score_less h (place_at i r f) (place_at p.index p.free_rect p.fit) ≡ b
+      less_is : (b : Bool) → is_less (lexicographic (score_numbers s) (score_numbers p.score)) ≡ b → score_less h (place_at i r f) (place_at p.index p.free_rect p.fit) ≡ b
       unfolding score_less
       less_is b l = rw (← e, ← k) l
 

@@ -20,13 +20,13 @@ use Rattle.sheet.proofs.merging.Apart.{Apart, first_apart}
 -- ---- rectangles that are known not to merge with the left one
 
 module _ (kerf i : ℕ) (left : Rect) where
-  skip_row : (m j : ℕ) (l : List Rect) → All (Apart kerf left) (take m l) → find_right kerf i left j l ≡ find_right kerf i left (j + m) (drop m l)
+  skip_rights : (m j : ℕ) (l : List Rect) → All (Apart kerf left) (take m l) → find_right kerf i left j l ≡ find_right kerf i left (j + m) (drop m l)
   unfolding find_right Apart
-  skip_row zero j l a = ap (λ (k : ℕ). find_right kerf i left k l) (omega arith)
-  skip_row (suc m) j [] a = refl
-  skip_row (suc m) j (r ∷ l) a =
+  skip_rights zero j l a = ap (λ (k : ℕ). find_right kerf i left k l) (omega arith)
+  skip_rights (suc m) j [] a = refl
+  skip_rights (suc m) j (r ∷ l) a =
       let next : suc j + m ≡ j + suc m = omega arith in
-      rw a.0 (skip_row m (suc j) l a.1 ∙ ap (λ (k : ℕ). find_right kerf i left k (drop m l)) next)
+      rw a.0 (skip_rights m (suc j) l a.1 ∙ ap (λ (k : ℕ). find_right kerf i left k (drop m l)) next)
 
 pairs_at : (R : Rect → Rect → Type 0) (l : List Rect) (i : ℕ) → Pairs R l → i < length l → All (R (get_or l i no_rect)) (drop (suc i) l)
 pairs_at R [] i p h = absurd (not-suc-le-zero h)
@@ -34,17 +34,17 @@ pairs_at R (r ∷ l) zero p h = p.0
 pairs_at R (r ∷ l) (suc i) p h = pairs_at R l i p.1 (le_of_suc-le-suc h)
 
 module _ (kerf : ℕ) (l : List Rect) where
-  -- a row and the rows below it
-  row_start : (i : ℕ) → i < length l
+  -- a left rectangle and those behind it
+  left_start : (i : ℕ) → i < length l
       → find_pair kerf i (drop i l) ≡ (find_right kerf i (get_or l i no_rect) (i + 1) (drop (i + 1) l) <|> find_pair kerf (i + 1) (drop (i + 1) l))
   unfolding find_pair
-  row_start i h = rw (drop-cons l i no_rect h, add-one i)
+  left_start i h = rw (drop-cons l i no_rect h, add-one i)
 
-  -- within the first `fresh` no pair merges, so the row may start behind them
-  row_known : (fresh i m : ℕ) → first_pair kerf (take fresh l) ≡ none → i < length l → m ≡ fresh - (i + 1)
+  -- within the first `fresh` no pair merges, so its partners may be looked for behind them
+  left_known : (fresh i m : ℕ) → first_pair kerf (take fresh l) ≡ none → i < length l → m ≡ fresh - (i + 1)
       → All (Apart kerf (get_or l i no_rect)) (take m (drop (i + 1) l))
-  row_known fresh i zero e h k = tt
-  row_known fresh i (suc m) e h k =
+  left_known fresh i zero e h k = tt
+  left_known fresh i (suc m) e h k =
       let within : i < length (take fresh l) = omega (arith, length-take fresh l) in
       let before : i < fresh = omega arith in
       let all = pairs_at (Apart kerf) (take fresh l) i (first_apart kerf (take fresh l) e) within in
@@ -53,20 +53,20 @@ module _ (kerf : ℕ) (l : List Rect) where
       let part : drop (suc i) (take fresh l) ≡ take (suc m) (drop (i + 1) l) = rw (whole, add-one i) (drop-take (suc i) (suc m) l) in
       rw (here, part) at all
 
-  row_fresh : (fresh i : ℕ) → first_pair kerf (take fresh l) ≡ none → i < length l
+  left_fresh : (fresh i : ℕ) → first_pair kerf (take fresh l) ≡ none → i < length l
       → find_right kerf i (get_or l i no_rect) (i + 1) (drop (i + 1) l) ≡ find_right kerf i (get_or l i no_rect) (max fresh (i + 1)) (drop (max fresh (i + 1)) l)
-  row_fresh fresh i e h =
+  left_fresh fresh i e h =
       let m = fresh - (i + 1) in
       let start : i + 1 + m ≡ max fresh (i + 1) = omega arith in
-      skip_row kerf i (get_or l i no_rect) m (i + 1) (drop (i + 1) l) (row_known fresh i m e h refl)
+      skip_rights kerf i (get_or l i no_rect) m (i + 1) (drop (i + 1) l) (left_known fresh i m e h refl)
       ∙ ap (find_right kerf i (get_or l i no_rect) (i + 1 + m)) (drop-drop m (i + 1) l)
       ∙ ap (λ (k : ℕ). find_right kerf i (get_or l i no_rect) k (drop k l)) start
 
-  -- the outer loop starts a row behind what is known, and ends
-  pub pair_row : (fresh i : ℕ) → first_pair kerf (take fresh l) ≡ none → i < length l
+  -- the outer loop starts to look behind what is known, and ends
+  pub pair_left : (fresh i : ℕ) → first_pair kerf (take fresh l) ≡ none → i < length l
       → find_pair kerf i (drop i l)
       ≡ (find_right kerf i (get_or l i no_rect) (max fresh (i + 1)) (drop (max fresh (i + 1)) l) <|> find_pair kerf (i + 1) (drop (i + 1) l))
-  pair_row fresh i e h = row_start i h ∙ rw (row_fresh fresh i e h)
+  pair_left fresh i e h = left_start i h ∙ rw (left_fresh fresh i e h)
 
   pub pair_end : (i : ℕ) → length l ≤ i → find_pair kerf i (drop i l) ≡ none
   unfolding find_pair
@@ -74,20 +74,20 @@ module _ (kerf : ℕ) (l : List Rect) where
 
   -- the inner loop passes a rectangle, finds one, and ends
   module _ (left : Rect) (i : ℕ) where
-    row_step : (j : ℕ) → j < length l
+    right_step : (j : ℕ) → j < length l
         → find_right kerf i left j (drop j l)
         ≡ ((merge_adjacent_rects kerf left (get_or l j no_rect) >>= λ m. some (record { left = i; right = j; merged = m })) <|> find_right kerf i left (j + 1) (drop (j + 1) l))
     unfolding find_right
-    row_step j h = rw (drop-cons l j no_rect h, add-one j)
+    right_step j h = rw (drop-cons l j no_rect h, add-one j)
 
-    pub row_skip : (j : ℕ) → j < length l → none ≡ merge_adjacent_rects kerf left (get_or l j no_rect)
+    pub right_skip : (j : ℕ) → j < length l → none ≡ merge_adjacent_rects kerf left (get_or l j no_rect)
         → find_right kerf i left j (drop j l) ≡ find_right kerf i left (j + 1) (drop (j + 1) l)
-    row_skip j h e = rw (row_step j h, ← e)
+    right_skip j h e = rw (right_step j h, ← e)
 
-    pub row_hit : (j : ℕ) (r : Rect) → j < length l → some r ≡ merge_adjacent_rects kerf left (get_or l j no_rect)
+    pub right_hit : (j : ℕ) (r : Rect) → j < length l → some r ≡ merge_adjacent_rects kerf left (get_or l j no_rect)
         → find_right kerf i left j (drop j l) ≡ some (record { left = i; right = j; merged = r })
-    row_hit j r h e = rw (row_step j h, ← e)
+    right_hit j r h e = rw (right_step j h, ← e)
 
-    pub row_end : (j : ℕ) → length l ≤ j → find_right kerf i left j (drop j l) ≡ none
+    pub right_end : (j : ℕ) → length l ≤ j → find_right kerf i left j (drop j l) ≡ none
     unfolding find_right
-    row_end j h = rw (drop_of_length-le l h)
+    right_end j h = rw (drop_of_length-le l h)

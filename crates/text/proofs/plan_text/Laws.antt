@@ -1,4 +1,4 @@
--- The lines and rows of a plan's text, from words at places.
+-- The lines and groups of a plan's text, from words at places.
 use Prim.Native.Nat.{ℕ, zero, suc, ◌+◌, ◌*◌, ◌<◌}
 use native.Mathlib.Nat.{add_assoc, mul-suc}
 use native.Mathlib.Omega.{arith}
@@ -10,11 +10,11 @@ use Rattle.lists.specs.Base.{concat_map, count_from, range}
 use Rattle.lists.proofs.Maps.{concat_map_map}
 use Rattle.lists.proofs.Counts.{counted_later}
 use Rattle.model.specs.Plan.{sheet_part}
-use Rattle.trust.specs.Words.{word, rows, key_at, rect_at, piece_in, waste_in, node_in, node_key, nodes_start, sheet_in, sheets_in}
+use Rattle.trust.specs.Words.{word, groups, key_at, rect_at, piece_in, waste_in, node_in, node_key, nodes_start, sheet_in, sheets_in}
 use Rattle.words.specs.Ascii.{ascii}
 use Rattle.words.specs.Numerals.{hex_of}
 use Rattle.text.specs.PlanText.{field, line, key_fields, first_line, piece_line, waste_line, node_line, sheet_text, sheet_texts}
-use Rattle.text.specs.Rows.{field_at, id_at, piece_at, waste_at, node_at, sheet_at}
+use Rattle.text.specs.BodyLines.{field_at, id_at, piece_at, waste_at, node_at, sheet_at}
 use borrow.Author.Tests.{eq-eqb, ne_eqb}
 
 -- a word of a row is a word of the body
@@ -68,7 +68,7 @@ module _ (body : List ℕ) (row : ℕ) where
   free_line e f =
       simp (add_assoc, append_assoc, in_row_first 8 row body (omega arith), eight 1 (omega arith), eight 2 (omega arith), eight 3 (omega arith), eight 4 (omega arith), eight 5 (omega arith), eight 6 (omega arith), eight 7 (omega arith), ne_eqb (word body row) 0 e, ne_eqb (word body row) 1 f)
 
--- ---- the first line, the rows of a body, the sheets of a plan
+-- ---- the first line, the groups of a body, the sheets of a plan
 
 pub first_line_lem : (words : List ℕ) → ascii "plan" ++ (concat_map (field_at words 0) (range 1) ++ (ascii " fitness " ++ (hex_of (id_at words 1) ++ word_line (ascii " layout") words 3 1))) ≡ first_line words
 unfolding first_line line concat_map count_from field_at
@@ -78,8 +78,8 @@ pub field_here : (words : List ℕ) (from k w : ℕ) → w ≡ word words (from 
 unfolding field_at
 field_here words from k w e = ap field e
 
-length_rows : {A : Type 0} (read : List ℕ → A) (size n : ℕ) (words : List ℕ) → length (map read (rows size n words)) ≡ n
-unfolding rows
+length_rows : {A : Type 0} (read : List ℕ → A) (size n : ℕ) (words : List ℕ) → length (map read (groups size n words)) ≡ n
+unfolding groups
 length_rows read size zero words = refl
 length_rows read size (suc n) words = ap suc (length_rows read size n (drop size words))
 
@@ -87,9 +87,9 @@ grown : (size start n : ℕ) → start + (n + size) ≡ start + size + n
 grown size start n = omega arith
 
 module _ {A : Type 0} (text : A → List ℕ) (read : List ℕ → A) (size : ℕ) (body : List ℕ) where
-  -- the rows of a part, by their places
-  rows_text_lem : (start n : ℕ) → concat_map text (map read (rows size n (drop start body))) ≡ concat_map (λ k. text (read (take size (drop (start + size * k) body)))) (range n)
-  unfolding rows concat_map count_from
+  -- the groups of a part, by their places
+  rows_text_lem : (start n : ℕ) → concat_map text (map read (groups size n (drop start body))) ≡ concat_map (λ k. text (read (take size (drop (start + size * k) body)))) (range n)
+  unfolding groups concat_map count_from
   rows_text_lem start zero = refl
   rows_text_lem start (suc n) =
       let at : ℕ → List ℕ = λ (row : ℕ). text (read (take size (drop row body))) in
@@ -97,7 +97,7 @@ module _ {A : Type 0} (text : A → List ℕ) (read : List ℕ → A) (size : �
       let next : (k : ℕ) → at (start + size * suc k) ≡ at (start + size + size * k) =
       λ k. ap at (ap (λ (m : ℕ). start + m) (mul-suc size k) ∙ grown size start (size * k)) in
       λ j. ap at first j
-      ++ (ap (λ (r : List ℕ). concat_map text (map read (rows size n r))) (drop-drop size start body)
+      ++ (ap (λ (r : List ℕ). concat_map text (map read (groups size n r))) (drop-drop size start body)
       ∙ rows_text_lem (start + size) n
       ∙ sym (counted_later (λ k. at (start + size * k)) (λ k. at (start + size + size * k)) 0 n next)) j
 

@@ -5,7 +5,7 @@ use Rattle.std.specs.Option.{unwrap_or, option_map}
 use Rattle.std.proofs.lemmas.Option.{some_pair_parts}
 use Rattle.lists.specs.Base.{is_empty}
 use Rattle.lists.proofs.Booleans.{both}
-use Rattle.typed.specs.Words.{first_word, read_digits, number_of, code_in}
+use Rattle.typed.specs.Words.{first_word, read_digits, decimal_value, code_in}
 use Rattle.typed.specs.Lines.{found, choice}
 use borrow.Author.Tests.{le-leb, leb-true, ltb-false}
 use lib.ListN.{drop_of_length-le}
@@ -49,19 +49,19 @@ module _ (most n c : ℕ) where
       go false e = refl
 
 module _ (most : ℕ) (w : List ℕ) where
-  pub number_none : length w ≤ 0 → number_of most w ≡ None
-  unfolding number_of
+  pub number_none : length w ≤ 0 → decimal_value most w ≡ None
+  unfolding decimal_value
   number_none h = go w h
     where
-      go : (l : List ℕ) → length l ≤ 0 → number_of most l ≡ None
+      go : (l : List ℕ) → length l ≤ 0 → decimal_value most l ≡ None
       go [] h = refl
       go (x ∷ l) h = absurd (omega arith)
 
-  pub number_some : 0 < length w → number_of most w ≡ read_digits most 0 w
-  unfolding number_of
+  pub number_some : 0 < length w → decimal_value most w ≡ read_digits most 0 w
+  unfolding decimal_value
   number_some h = go w h
     where
-      go : (l : List ℕ) → 0 < length l → number_of most l ≡ read_digits most 0 l
+      go : (l : List ℕ) → 0 < length l → decimal_value most l ≡ read_digits most 0 l
       go [] h = absurd (omega arith)
       go (x ∷ l) h = refl
 

@@ -22,18 +22,18 @@ returns-in-None c =
     absurd
     (room_for c.args.inst.now c.args.insertions.now c.args.board c.requires.0 c.args.i c.requires.1 c.args.free.now c.args.guide.now.items c.args.p c.requires.2
     c.board-s.ensures.sound.ranged (sym c.board_of.ensures ∙ c.if-board_of-board.false) _ _ _ (ap (λ (b : StockInstance). b.pattern) c.board-s.ensures.value)
-    (c.cut-cut.ensures.value ∙ ap (cut_in c.args.inst.now) c.cut_of.ensures) c.row_of-h.ensures c.try_insert.new.free None (rw c.kerf_width-kerf_width.ensures.value at c.in-None.ensures) c.args.pieces.now c.requires.3)
+    (c.cut-cut.ensures.value ∙ ap (cut_in c.args.inst.now) c.cut_of.ensures) c.heuristic_of-h.ensures c.try_insert.new.free None (rw c.kerf_width-kerf_width.ensures.value at c.in-None.ensures) c.args.pieces.now c.requires.3)
 
 pub take_piece-requires : goal.take_piece-requires
 take_piece-requires c =
     room_for c.args.inst.now c.args.insertions.now c.args.board c.requires.0 c.args.i c.requires.1 c.args.free.now c.args.guide.now.items c.args.p c.requires.2
     c.board-s.ensures.sound.ranged (sym c.board_of.ensures ∙ c.if-board_of-board.false) _ _ _ (ap (λ (b : StockInstance). b.pattern) c.board-s.ensures.value)
-    (c.cut-cut.ensures.value ∙ ap (cut_in c.args.inst.now) c.cut_of.ensures) c.row_of-h.ensures c.try_insert.new.free (Some c.in-Some.inserted) (rw c.kerf_width-kerf_width.ensures.value at c.in-Some.ensures)
+    (c.cut-cut.ensures.value ∙ ap (cut_in c.args.inst.now) c.cut_of.ensures) c.heuristic_of-h.ensures c.try_insert.new.free (Some c.in-Some.inserted) (rw c.kerf_width-kerf_width.ensures.value at c.in-Some.ensures)
     c.args.pieces.now c.requires.3
 
 pub returns-in-Some : goal.returns-in-Some
 returns-in-Some c =
     done c.args.inst.now c.args.insertions.now c.args.board c.requires.0 c.args.i c.requires.1 c.args.free.now c.args.guide.now.items c.args.p c.requires.2
     c.board-s.ensures.sound.ranged (sym c.board_of.ensures ∙ c.if-board_of-board.false) _ _ _ (ap (λ (b : StockInstance). b.pattern) c.board-s.ensures.value)
-    (c.cut-cut.ensures.value ∙ ap (cut_in c.args.inst.now) c.cut_of.ensures) c.row_of-h.ensures c.try_insert.new.free (Some c.in-Some.inserted) (rw c.kerf_width-kerf_width.ensures.value at c.in-Some.ensures)
+    (c.cut-cut.ensures.value ∙ ap (cut_in c.args.inst.now) c.cut_of.ensures) c.heuristic_of-h.ensures c.try_insert.new.free (Some c.in-Some.inserted) (rw c.kerf_width-kerf_width.ensures.value at c.in-Some.ensures)
     c.args.pieces.now _ _ _ (rw c.kerf_width-kerf_width.ensures.value at c.take_piece.ensures)

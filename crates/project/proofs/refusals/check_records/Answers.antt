@@ -3,7 +3,7 @@ use Prim.Native.Nat.{ℕ, ◌+◌}
 use mathlib.Core.Path.{sym, ap, ◌∙◌}
 use mathlib.Core.Option.{Option}
 use Rattle.lists.specs.Base.{◌<|>◌}
-use Rattle.model.specs.Project.{Piece}
+use Rattle.model.specs.Project.{Record}
 use Rattle.project.specs.Records.{record_at}
 use Rattle.project.specs.Checks.{rule_of}
 use Rattle.project.proofs.refusals.Checks.{rest, rest_all, rest_next, rest_none}
@@ -23,7 +23,7 @@ returns-in_err-check_record c =
 pub loop-i-preserved : goal.loop-i-preserved
 loop-i-preserved c = (
   search rules,
-  ap (λ (q : ℕ). rest c.args.body.now (rule_of c.args.kind) (c.loop-i.i + 1) (c.loop-i.count + q)) (c.from-count.ensures ∙ ap (λ (p : Piece). p.quantity) c.record_at.ensures)
+  ap (λ (q : ℕ). rest c.args.body.now (rule_of c.args.kind) (c.loop-i.i + 1) (c.loop-i.count + q)) (c.from-count.ensures ∙ ap (λ (p : Record). p.quantity) c.record_at.ensures)
       ∙ ap (λ (o : Option ℕ). o <|> rest c.args.body.now (rule_of c.args.kind) (c.loop-i.i + 1) (c.loop-i.count + (record_at c.args.body.now c.loop-i.i).quantity)) c.in_ok-check_record.ensures
       ∙ sym (rest_next c.args.body.now (rule_of c.args.kind) c.loop-i.i c.loop-i.count (search rules))
       ∙ c.loop-i.invariant.1,

@@ -1,7 +1,7 @@
 -- `seeds::initial_candidate_seed` meets its contract: a seed of the sorted order, or a shuffle.
 use Rattle.std.proofs.Common.{◌≡◌, ℕ, ◌+◌, ◌-◌, ◌<◌, ◌≤◌, ap, ◌∙◌, arith}
 use Rattle.model.specs.TinyPrng.{wrap}
-use Rattle.search.specs.Rows.{sorted_seeds}
+use Rattle.search.specs.Numbers.{sorted_seeds}
 use Rattle.search.proofs.seeds.Nth.{is_sorted, is_shuffled}
 use Rattle.search.proofs.seeds.initial_candidate_seed.Goals as goal
 

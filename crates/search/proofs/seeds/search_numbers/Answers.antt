@@ -1,7 +1,7 @@
 -- `seeds::search_numbers` meets its contract.
 use Rattle.std.proofs.Common.{sym, ap}
 use Rattle.model.specs.Search.{search_numbers}
-use Rattle.search.specs.Rows.{numbers_of}
+use Rattle.search.specs.Numbers.{numbers_of}
 use Rattle.search.proofs.seeds.search_numbers.Goals as goal
 
 pub returns-in-Fast : goal.returns-in-Fast

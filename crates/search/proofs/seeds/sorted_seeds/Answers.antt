@@ -3,7 +3,7 @@ use Rattle.std.specs.Prelude.{if◌then◌else◌}
 use Rattle.std.proofs.Common.{◌≡◌, ◌+◌, ◌-◌, Bool, true, false, List, length, max, sym, ap, ◌∙◌, arith}
 use Rattle.model.specs.declared.BaselineGuillotineHeuristic.{BaselineGuillotineHeuristic}
 use Rattle.search.specs.declared.seeds.SearchNumbers.{SearchNumbers}
-use Rattle.search.specs.Rows.{sorted_seeds}
+use Rattle.search.specs.Numbers.{sorted_seeds}
 use Rattle.search.proofs.seeds.sorted_seeds.Goals as goal
 
 chosen : (rows : List BaselineGuillotineHeuristic) (n : SearchNumbers) (b : Bool) → n.variants ≡ b → (if b then 1 + (length rows - 1) else 1) ≡ sorted_seeds rows n

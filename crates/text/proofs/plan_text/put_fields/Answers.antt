@@ -3,7 +3,7 @@ use mathlib.Core.Path.{ap, ◌∙◌}
 use Rattle.words.specs.Appending.{with_bytes}
 use Rattle.words.proofs.append.Buffers.{bytes_begin, bytes_next}
 use Rattle.text.proofs.plan_text.Laws.{field_here}
-use Rattle.text.specs.Rows.{field_at}
+use Rattle.text.specs.BodyLines.{field_at}
 use borrow.Author.Rules.{rules}
 use Rattle.text.proofs.plan_text.put_fields.Goals as goal
 

@@ -4,7 +4,7 @@ use mathlib.Core.Path.{◌≡◌}
 use Rattle.lists.specs.Base.{concat_map, range}
 use Rattle.trust.specs.Words.{piece_size}
 use Rattle.words.specs.Appending.{with_bytes}
-use Rattle.text.specs.Rows.{piece_at}
+use Rattle.text.specs.BodyLines.{piece_at}
 use Rattle.text.proofs.plan_text.put_pieces.Given as goal
 
 abbrev pub invariant-loop-k : goal.invariant-loop-k

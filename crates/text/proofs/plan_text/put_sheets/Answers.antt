@@ -3,7 +3,7 @@ use native.Mathlib.Omega.{arith}
 use mathlib.Core.Path.{◌∙◌, ap}
 use Rattle.words.specs.Appending.{with_bytes}
 use Rattle.words.proofs.append.Buffers.{bytes_begin, bytes_next, bytes_stop}
-use Rattle.text.specs.Rows.{sheet_at}
+use Rattle.text.specs.BodyLines.{sheet_at}
 use Rattle.text.proofs.plan_text.Laws.{sheet_here, sheets_text}
 use borrow.Author.Rules.{rules}
 use Rattle.text.proofs.plan_text.put_sheets.Goals as goal

@@ -2,7 +2,7 @@
 use mathlib.Core.Path.{◌≡◌}
 use Rattle.lists.specs.Base.{concat_map, range}
 use Rattle.words.specs.Appending.{with_bytes}
-use Rattle.text.specs.Rows.{sheet_at}
+use Rattle.text.specs.BodyLines.{sheet_at}
 use Rattle.text.proofs.plan_text.put_sheets.Given as goal
 
 abbrev pub invariant-loop-k : goal.invariant-loop-k

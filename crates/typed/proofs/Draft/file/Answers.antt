@@ -9,7 +9,7 @@ use Rattle.typed.proofs.Draft.file.Goals as goal
 put : goal.returns-clause-bytes
 unfolding file_text
 put c =
-    let all : c.push_rows-2.new.file ≡ with_bytes 3104 [] (file_text c.args.self.now) = simp with_bytes-append (cc) in
+    let all : c.push_records-2.new.file ≡ with_bytes 3104 [] (file_text c.args.self.now) = simp with_bytes-append (cc) in
     all ∙ file_fits c.args.self.now c.as_slice-boards.ensures.within c.as_slice-panels.ensures.within
 
 pub returns-clause-bytes : goal.returns-clause-bytes

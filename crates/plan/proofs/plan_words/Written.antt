@@ -13,7 +13,7 @@ use Rattle.model.specs.declared.PatternDirection.{PatternDirection}
 use Rattle.model.specs.contracts.PatternDirection.{the_type}
 use Rattle.model.specs.Types.{pattern_code, flag_code}
 use Rattle.model.specs.Plan.{piece_words}
-use Rattle.plan.specs.Rows.{piece, head_words}
+use Rattle.plan.specs.Heads.{piece, head_words}
 
 -- a pattern's number among its enum's
 pub pattern_is : (p : PatternDirection) → tag_of the_type p ≡ pattern_code p
@@ -25,13 +25,13 @@ pub flag_is : (b : Bool) → bool_byte b ≡ flag_code b
 flag_is true = refl
 flag_is false = refl
 
-pub piece_row : (cut : CutInstance) (h : BaselineGuillotineHeuristic) (fit : FitResult) (low high code flag : ℕ)
+pub piece_written : (cut : CutInstance) (h : BaselineGuillotineHeuristic) (fit : FitResult) (low high code flag : ℕ)
     → low ≡ cut.cut_id % 2 ^ 32 → high ≡ cut.cut_id / 2 ^ 32 → code ≡ pattern_code fit.pattern → flag ≡ flag_code fit.rotated
     → low ∷ high ∷ cut.instance ∷ fit.rect.x ∷ fit.rect.y ∷ fit.rect.width ∷ fit.rect.length ∷ code ∷ flag ∷ [] ≡ piece_words (piece cut h fit)
 unfolding piece_words
-piece_row cut h fit low high code flag e f g k = rw (e, f, g, k)
+piece_written cut h fit low high code flag e f g k = rw (e, f, g, k)
 
-pub head_row : (stock : StockInstance) (low high used saw pieces waste nodes : ℕ) → low ≡ stock.stock_id % 2 ^ 32 → high ≡ stock.stock_id / 2 ^ 32
+pub head_written : (stock : StockInstance) (low high used saw pieces waste nodes : ℕ) → low ≡ stock.stock_id % 2 ^ 32 → high ≡ stock.stock_id / 2 ^ 32
     → low ∷ high ∷ stock.instance ∷ stock.width ∷ stock.length ∷ used ∷ saw ∷ pieces ∷ waste ∷ nodes ∷ [] ≡ head_words stock used saw pieces waste nodes
 unfolding head_words
-head_row stock low high used saw pieces waste nodes e f = rw (e, f)
+head_written stock low high used saw pieces waste nodes e f = rw (e, f)

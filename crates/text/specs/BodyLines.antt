@@ -1,4 +1,4 @@
--- The lines of a body's rows, by their places in the body.
+-- The lines of a body's pieces, waste and nodes, by where each is in the body.
 use Rattle.std.specs.Prelude.{ℕ, ◌+◌, ◌*◌, ◌^◌, List, take, drop}
 use Rattle.model.specs.Plan.{sheet_part}
 use Rattle.trust.specs.Words.{word, piece_in, waste_in, node_in, sheet_in, piece_size, waste_size, node_size}
@@ -13,13 +13,13 @@ abbrev pub id_at : List ℕ → ℕ → ℕ
 id_at words k = word words k + 2 ^ 32 * word words (k + 1)
 
 unfoldable pub piece_at : List ℕ → ℕ → List ℕ
-piece_at body row = piece_line (piece_in (take piece_size (drop row body)))
+piece_at body at = piece_line (piece_in (take piece_size (drop at body)))
 
 unfoldable pub waste_at : List ℕ → ℕ → List ℕ
-waste_at body row = waste_line (waste_in (take waste_size (drop row body)))
+waste_at body at = waste_line (waste_in (take waste_size (drop at body)))
 
 unfoldable pub node_at : List ℕ → ℕ → List ℕ
-node_at body row = node_line (node_in (take node_size (drop row body)))
+node_at body at = node_line (node_in (take node_size (drop at body)))
 
 -- sheet k of a plan
 unfoldable pub sheet_at : List ℕ → ℕ → List ℕ
