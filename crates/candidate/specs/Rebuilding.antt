@@ -6,10 +6,11 @@ use Rattle.lists.proofs.Perm.{All}
 use Rattle.model.specs.declared.Rect.{Rect}
 use Rattle.model.specs.Sheet.{new_sheet, rebuild}
 use Rattle.model.specs.Expand.{ProblemInstance}
-use Rattle.project.specs.Problem.{board_in}
-use Rattle.candidate.specs.Entries.{board_of, cut_of}
+use Rattle.project.specs.Problem.{board_in, cut_in}
+use Rattle.candidate.specs.Entries.{board_of, cut_of, heuristic_of}
 use Rattle.candidate.specs.Stands.{making_in}
 use Rattle.candidate.specs.Bins.{Other, rects_on, ShowsBin}
+use Rattle.candidate.specs.Fitting.{InsertsOnBoard}
 
 -- ---- the bare boards
 
@@ -32,6 +33,11 @@ pub record Makable (inst : ProblemInstance) (free : List (List Rect)) (words : L
   pub boards : All (λ w. board_of w < length inst.stock) words
   pub cuts : All (λ w. cut_of w < length inst.cuts) words
   pub bare : All (λ w. ShowsBare inst free (board_of w)) words
+
+-- one insertion, made again on its board
+abbrev pub InsertsWord : ℕ → ProblemInstance → ℕ → (before after : List (List Rect)) → Bool → Type 0
+InsertsWord kerf inst word before after r =
+    InsertsOnBoard kerf (board_in inst (board_of word)).pattern (record { cut = cut_in inst (cut_of word); heuristic = heuristic_of word }) (board_of word) before after r
 
 pub record InsertsAll (inst : ProblemInstance) (words : List ℕ) (before after : List (List Rect)) (r : Bool) : Type 0 where
   pub answer : (boards : List ℕ) → All (λ w. Memᴰ (board_of w) boards) words → r ≡ rebuilds_all inst words boards

@@ -1,6 +1,6 @@
 // What a candidate is worth: the areas and the fitness of its sheets, its validity and its score.
 
-ghost use Rattle.std.specs.Prelude.{◌≡◌, List, [], map, ◌≤◌, ◌<◌, ◌^◌, Bool, Float, length, sum_by};
+ghost use Rattle.std.specs.Prelude.{◌≡◌, List, [], map, ◌<◌, ◌^◌, Bool, Float, length, sum_by};
 ghost use Rattle.std.proofs.Math.Option.{some};
 ghost use Rattle.lists.specs.Base.{sum, range};
 ghost use Rattle.lists.proofs.Perm.{All};

@@ -5,13 +5,12 @@ ghost use Rattle.std.specs.Prelude.{◌≡◌, [], ◌<◌};
 ghost use lib.ListN.{length, take};
 ghost use Rattle.lists.proofs.Perm.{All};
 ghost use Rattle.model.specs.Sheet.{new_sheet};
-ghost use Rattle.project.specs.Problem.{board_in, cut_in};
-ghost use Rattle.candidate.specs.Entries.{board_of, cut_of, heuristic_of};
+ghost use Rattle.candidate.specs.Entries.{board_of, cut_of};
 ghost use Rattle.candidate.specs.Stands.{Stands};
 ghost use Rattle.candidate.specs.Bins.{with_bin, Shown};
 ghost use Rattle.candidate.specs.Fitting.{Fillable, InsertsOnBoard, Boards, TriesBoards};
 ghost use Rattle.candidate.specs.Placing.{Next, PlacesCut, PlacesCuts, Reinserts};
-ghost use Rattle.candidate.specs.Rebuilding.{OpensBoards, Makable, InsertsAll, Rebuildable, Rebuilds};
+ghost use Rattle.candidate.specs.Rebuilding.{OpensBoards, Makable, InsertsWord, InsertsAll, Rebuildable, Rebuilds};
 
 use crate::Candidate;
 use model::{BaselineGuillotineHeuristic, CutInstance, StockInstance};
@@ -141,7 +140,7 @@ fn insert_again(
     word: u32,
 ) -> bool
     requires { Fillable kerf_width free.old (board_of word) × (board_of word < length inst.now.stock) × (cut_of word < length inst.now.cuts) }
-    ensures { InsertsOnBoard kerf_width (board_in inst.now (board_of word)).pattern (record { cut = cut_in inst.now (cut_of word); heuristic = heuristic_of word }) (board_of word) free.old free.new result }
+    ensures { InsertsWord kerf_width inst.now word free.old free.new result }
 {
     let board = crate::board_of(word) as usize;
     let s = inst.board(board);

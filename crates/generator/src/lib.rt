@@ -1,4 +1,4 @@
-// The generator of the source, `TinyPrng`.
+// The generator of the source, `TinyPrng`, and the shuffle of a cut order by it.
 #![tactic(auto)]
 
 ghost use Rattle.std.specs.Prelude.{◌≡◌, ℕ, ◌<◌};

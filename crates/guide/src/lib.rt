@@ -1,4 +1,4 @@
-// The cutting guide of one sheet while its making is replayed.
+// The cutting guide of one sheet while its making is replayed, and what is read off it.
 #![tactic(auto)]
 
 ghost use Rattle.std.specs.Prelude.{◌≡◌, ◌+◌, ◌≤◌, ◌<◌, length};

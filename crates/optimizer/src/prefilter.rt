@@ -1,6 +1,6 @@
 // What is tested before the search: `basic_feasibility_prefilter` of the optimizer.
 
-ghost use Rattle.std.specs.Prelude.{◌≡◌, ◌<◌, ◌^◌, map, sum_by};
+ghost use Rattle.std.specs.Prelude.{◌≡◌, ◌<◌, ◌^◌, sum_by};
 ghost use Rattle.lists.specs.Base.{any, all};
 ghost use Rattle.model.specs.Types.{stock_area, cut_area};
 ghost use Rattle.model.specs.Fit.{cut_fits_stock};

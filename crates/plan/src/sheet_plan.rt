@@ -1,7 +1,7 @@
 // One sheet's part of the plan. The sheet is made again from its board and its insertions; each piece is written as it is placed,
 // then the waste, the guide's nodes, and the words before them, which count them.
 
-ghost use Rattle.std.specs.Prelude.{◌≡◌, ◌+◌, ◌*◌, ◌≤◌, ◌<◌, length, take};
+ghost use Rattle.std.specs.Prelude.{◌+◌, ◌*◌, ◌≤◌, ◌<◌, length, take};
 ghost use Rattle.model.specs.Sheet.{new_sheet};
 ghost use Rattle.model.specs.Plan.{sheet_words};
 ghost use Rattle.candidate.specs.Stands.{bin_in};

@@ -1,4 +1,4 @@
-// The project file: its records and settings.
+// The project file (`ProjectFile`), the refusals, and what a file that no check refuses becomes: the problem of a search.
 #![tactic(auto)]
 
 ghost use Rattle.std.specs.Prelude.{◌≡◌, if◌then◌else◌, Some, None, ◌+◌, ◌*◌, ◌/◌, ◌≤◌, length};

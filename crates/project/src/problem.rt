@@ -1,6 +1,6 @@
 // The problem of a search: the boards in the order of first fit, the cuts in file order, and the kerf (`ProblemInstance`).
 
-ghost use Rattle.std.specs.Prelude.{◌≡◌, ◌<◌, ◌≤◌, length};
+ghost use Rattle.std.specs.Prelude.{◌≡◌, ◌<◌, length};
 ghost use Rattle.model.specs.Expand.{ProblemInstance as Instance};
 ghost use Rattle.project.specs.Problem.{Sound, board_in, cut_in};
 

@@ -1,6 +1,6 @@
 // The best place of a cut among a sheet's free rectangles: the first fit of lowest score. A search that finds none reads two sides a rectangle.
 
-ghost use Rattle.std.specs.Prelude.{◌≡◌, ◌∷◌, [], map};
+ghost use Rattle.std.specs.Prelude.{◌∷◌, [], map};
 ghost use Rattle.fits.specs.ByWays.{fits_by_ways};
 ghost use Rattle.sheet.specs.Places.{IsNextFit, place_at, Scored, Over, FindsBest};
 

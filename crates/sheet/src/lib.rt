@@ -1,4 +1,4 @@
-// The insertion of a cut into a sheet at its best place (`GuillotineSheet::try_insert`).
+// A sheet: its free rectangles, and the insertion of a cut at its best place (`GuillotineSheet::try_insert`).
 #![tactic(auto)]
 
 ghost use Rattle.sheet.specs.Bounds.{Inside};

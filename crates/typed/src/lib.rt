@@ -7,8 +7,8 @@ ghost use Rattle.model.specs.Project.{well_formed};
 ghost use Rattle.typed.specs.Lines.{line_of};
 ghost use Rattle.typed.specs.Project.{empty, with_setting, pushed, added, too_many, reason_of, answer_of, record_text, records_text, contents_text, settings_text, file_text, meaning, file_of, message_of_line};
 
-mod line; // One line of a project that a person has typed
 mod line_words; // The words of a line, one after the other, and what they say
+mod line; // One line of a project that a person has typed
 
 use arrayvec::ArrayVec;
 use line::{Fields, Kind, Line, Reason, Setting};
