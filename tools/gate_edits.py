@@ -1,13 +1,13 @@
 #!/usr/bin/env python3
-"""Lists for each public function the must-fail edits that are wrong answers of it, and says which function with a choice has fewer than two.
+"""Lists for each function that other crates call its wrong answers: those that the gate tries, and how many stand in wrong-answers.txt.
 
     tools/gate_edits.py [CRATE...]      from the repository's root
 
-A function is public if it is marked so and another crate calls it, or no other module of its own crate does. It has a choice if its text, or that of a private function it reaches in its crate, has a branch, a comparison, a remainder or a shift; a loop's
-bound alone is none. Which operand comes first, or which byte, is a choice too, and no pattern finds it: read the functions listed as having none.
-An edit is a wrong answer of it if it changes that text. A private function's wrong answers are those of the public ones above it."""
+A function is listed if it is `pub` and another crate calls it, or no other module of its own crate does. It has a choice if its text, or that of a function it reaches
+in its crate, has a branch, a comparison, a remainder or a shift; a loop's bound alone is none. Which operand comes first, or which byte, is a choice too, and no pattern
+finds it: read the functions listed as having none. An edit is a wrong answer of it if it changes that text. One with a choice that has fewer than two is named."""
 import re, sys
-from try_edits import calls, crates, edits_of_gate, functions, touched
+from try_edits import calls, crates, edits_of, edits_of_gate, functions, touched
 
 CHOICE = re.compile(r"\b(if|match)\b|>>|<<| (?:<|>|<=|>=|==|!=|%) ")
 
@@ -39,14 +39,17 @@ def main():
     for crate in sys.argv[1:] or crates():
         found = everything[crate]
         promised = list(promises(crate, found, everything))
-        edits = [(e[0], touched(crate, e) or set()) for e in edits_of_gate(crate)]
+        gate = [e[0] for e in edits_of_gate(crate)]
+        edits = [(e[0], touched(crate, e) or set()) for e in edits_of(crate)]
         for function in promised:
             text = own_text(function, found, promised)
             choice = any(CHOICE.search(found[f][1]) for f in text)
             mine = [label for label, names in edits if names & text]
             few = choice and len(mine) < 2
             short += few
-            print(f"{'::'.join(filter(None, (crate,) + function))}: {'a choice' if choice else 'no choice'}; {', '.join(mine) or 'none'}{'  FEWER THAN TWO' if few else ''}")
+            tried = ", ".join(label for label in mine if label in gate) or "none"
+            name = "::".join(filter(None, (crate,) + function))
+            print(f"{name}: {'a choice' if choice else 'no choice'}; in the gate: {tried}; in all {len(mine)}{'  FEWER THAN TWO' if few else ''}")
     print(f"{short} functions with a choice have fewer than two")
     sys.exit(short > 0)
 
