@@ -19,8 +19,8 @@ use model::{
 };
 use words::copying;
 
-// All 64 are numbers of boards, of which the problem's come first: `sheets` divides those of the sheets from the available ones. That a candidate stands is a fact of it and
-// its problem together, so it is a clause of what needs it.
+// `boards` has all 64 numbers, the problem's first; the first `sheets` of them have a sheet. Whether a candidate stands depends on the problem too,
+// so each function that needs it says so in a clause.
 #[derive(Drop)]
 pub struct Candidate {
     // the boards: those of the sheets, in sheet order, then the available ones
@@ -33,8 +33,8 @@ pub struct Candidate {
 
 // ---- insertions as words
 
-// The workspace is lent words, so an insertion at rest is a word; it is one in a candidate too, so that loading and storing copy words and turn none.
-// These are functions and no `From`: a number is a board, a cut or a heuristic by its place in the word.
+// In the workspace an insertion is a word. It is one in a candidate too, so that loading and storing only copy.
+// The functions take plain numbers: whether a number is a board, a cut or a heuristic is told by its place in the word.
 
 fn heuristic_code(h: BaselineGuillotineHeuristic) -> u32
     ensures { result ≡ heuristic_code h }
@@ -81,8 +81,7 @@ fn coded_heuristic(code: u32) -> BaselineGuillotineHeuristic
     }
 }
 
-// Places are below 64 by a clause: a type of places would be unwrapped in each word. Cut and heuristic are apart as in
-// `guillotine`.
+// That board and cut are below 64 is a clause: a type that says so would be opened here at once.
 fn insertion_word(board: u32, cut: u32, h: BaselineGuillotineHeuristic) -> u32
     requires { (board < 64) × (cut < 64) }
     ensures { result ≡ insertion_word board cut h }
@@ -148,7 +147,7 @@ impl Candidate {
         self.unused.push(cut);
     }
 
-    // The three ends of place_cut_first_fit, by the index of the board: on a sheet, on a new board, past the `stock` boards unused.
+    // The three ends of place_cut_first_fit, told by the board's index: a sheet's board, an available one, or past the `stock` boards, where the cut stays unused.
     pub fn take_place(&mut self, stock: usize, j: usize, cut: u32, h: BaselineGuillotineHeuristic)
         requires { (stock ≤ 64) × (j < stock → get_or self.old.boards j 0 < 64) × (cut < 64)
             × (length (placed_words self.old) < 64) × (length (unused_numbers self.old) < 64) }

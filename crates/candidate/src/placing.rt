@@ -17,8 +17,8 @@ use model::{BaselineGuillotineHeuristic, CutInstance, StockInstance};
 use project::problem::ProblemInstance;
 use sheet::free_rects::FreeRects;
 
-// The free rectangles and the problem go together, but not in a struct: each function that changes the rectangles would have to say that the
-// problem stays.
+// The free rectangles and the problem are two parameters: with one struct of both, each function that changes the rectangles would have to say that
+// the problem stays.
 
 // ---- one board
 

@@ -25,7 +25,7 @@ fn compare_fitness(left: Option<f64>, right: Option<f64>) -> Ordering
     left.partial_cmp(&right).unwrap_or(Ordering::Equal)
 }
 
-// Fewer sheets, less waste area, higher fitness: the better score is the greater one. Two fields descend and one is a float: no derive has that.
+// Fewer sheets, then less waste area, then higher fitness: the better score is the greater one. It is no derived order: two fields descend and one is a float.
 #[tactic(auto, unfolding(model::specs::Candidate::compare_score, crate::specs::Scores::score_of))]
 fn compare_candidate_score(left: CandidateScore, right: CandidateScore) -> Ordering
     ensures { order_of result ≡ compare_score (score_of left) (score_of right) }
@@ -44,7 +44,7 @@ pub fn is_better(left: CandidateScore, right: CandidateScore) -> bool
     compare_candidate_score(left, right).is_gt()
 }
 
-// The test of the fittest donor sheet, and below that of the least fit one: functions, so that they can be handed on.
+// The tests that find the fittest and the least fit sheet, as functions that can be handed on.
 #[tactic(auto, using(crate::proofs::scores::Order::greater_is))]
 pub fn is_fitter(left: f64, right: f64) -> bool
     ensures { result ≡ is_greater (compare_float left right) }

@@ -1,5 +1,5 @@
-// What the search makes of candidates: one with its least fit sheet taken apart (`compact_worst_bin_for_repair`), and the child of two, of which the
-// second gives its fittest sheet and the first its boards (`crossover_child_from_donor_bin`).
+// What the search makes of candidates. One has its least fit sheet taken apart (`compact_worst_bin_for_repair`). The child of two has the boards of the
+// first and the fittest sheet of the second (`crossover_child_from_donor_bin`).
 
 ghost use Rattle.std.specs.Prelude.{◌≡◌, ◌==◌, [], map, ◌≤◌, ◌<◌, ◌+◌, length, position};
 ghost use Rattle.candidate.specs.Stands.{placed_words, unused_numbers, candidate_in, Stands};

@@ -28,7 +28,7 @@ pub fn lies_any_way(ways: Ways, width: u32, length: u32, free_width: u32, free_l
         || lies(ways.rotated, length, width, free_width, free_length)
 }
 
-// The cut in the corner of the free rectangle. A struct of both would be made for this call alone.
+// The cut in the corner of the free rectangle. Both are parameters, as in the source.
 fn upright_result(cut: CutInstance, free_rect: Rect) -> FitResult
     ensures { result ≡ upright_result cut free_rect }
 {

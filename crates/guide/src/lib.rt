@@ -36,7 +36,7 @@ fn replace_free_leaf<const N: usize>(guide: &mut ArrayVec<Node, N>, target: Rect
     }
 }
 
-// The guide part of try_insert: a merge voids it. The flag is the definition's, which takes a merge as it takes a cut.
+// The guide part of try_insert. A merge voids the guide; `merged` is a parameter, as in the definition.
 pub fn next_guide<const N: usize>(
     guide: &mut ArrayVec<Node, N>,
     merged: bool,

@@ -7,7 +7,7 @@ ghost use Rattle.guide.specs.Splices.{spliced, Surrounds};
 use super::subtree::{CutOff, Node, Subtree};
 use arrayvec::ArrayVec;
 
-// The nodes from `at` up to `behind` come under a cut, where there is one: it stands before them, its remainder behind. The answer is the number behind both.
+// Puts the nodes from `at` to `behind` under a cut, if there is one: the cut goes before them and its remainder behind them. Answers the number past both.
 fn surround<const N: usize>(
     guide: &mut ArrayVec<Node, N>,
     at: usize,

@@ -128,7 +128,7 @@ fn cut_key(cut: CutInstance) -> InstanceKey
     }
 }
 
-// The two below differ in each rectangle, offset and remainder: one function would choose all of them by direction, which is no plainer.
+// The two functions below differ in every rectangle, offset and remainder; one for both would choose each of them by the direction.
 fn guillotine_horizontal_insert_subtree(
     free_rect: Rect,
     placed: Rect,

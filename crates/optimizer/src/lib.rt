@@ -20,8 +20,7 @@ use project::{Refusal, instances, refusals};
 use search::seeds;
 use sheet::free_rects::FreeRects;
 
-// The least lent memory, in words. C lends both as slices of any length, beside each other and beside the file, so that they are long enough is a
-// clause of what is behind the test.
+// The least lent memory, in words. C may lend slices of any length, so what comes behind the test says in a clause that they are long enough.
 const WORKSPACE: usize = 16_384;
 
 const PLAN: usize = 4_500;

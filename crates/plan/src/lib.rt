@@ -29,8 +29,8 @@ pub struct Bodies {
     pub areas: ArrayVec<SheetAreas, 64>,
 }
 
-// The contents and the bodies, behind the plan's four first words. C lends the plan as a slice of any length, so that it is long enough is a clause;
-// and that the problem is sound is one here, since none of its methods is called.
+// The contents and the bodies, behind the plan's four first words. Two clauses: the plan memory is long enough, since C may lend a slice of any length;
+// and the problem is sound, since no method is called here that would tell.
 fn write_sheets(plan: &mut [u32], inst: &ProblemInstance<'_>, c: &Candidate) -> Bodies
     requires { Sound inst.now × Stands inst.now [] c.now × (4500 ≤ length plan.old) }
     ensures { WritesSheets (candidate_in inst.now c.now).bins plan.old plan.new result }
@@ -84,7 +84,7 @@ pub fn empty_plan(plan: &mut [u32], layout: LayoutKind) -> usize
 
 // ---- reading
 
-// The part that a number's entry names, where the number, its entry and the whole part are there.
+// The part of the plan that entry `number` of the contents names; none if there is no such entry or the part goes beyond the slice.
 fn sheet_part(plan: &[u32], number: u32) -> Option<&[u32]>
     ensures { unwrap_or (option_map (λ part. part.now) result) [] ≡ sheet_part plan.now number }
 {

@@ -12,7 +12,7 @@ use guide::subtree::Node;
 use model::{CutInstance, FitResult, Rect, StockInstance};
 use words::{copying, numbers};
 
-// A place in the plan is a number beside it: the rows of a body follow one another, and each place is the sum of what is before it.
+// Where to write is an index beside the plan: the parts of a body follow one another, and each begins where the one before it ends.
 
 // A piece's nine words.
 pub fn put_piece(plan: &mut [u32], at: usize, cut: CutInstance, fit: FitResult)

@@ -20,8 +20,8 @@ use words::numbers;
 
 // ---- a sheet made again
 
-// Free rectangles and guide are changed beside the problem, and insertions and board tell which pieces are the sheet's: a struct of them would need a
-// clause in each function for what stays. What a sheet is rebuilt from is a fact of the problem and its insertions together.
+// The problem and the insertions stay while free rectangles and guide change, so they are no fields of one struct: each function would have to say which
+// of them stay.
 
 // How far a sheet is made: its pieces, and the placed area.
 #[derive(Drop)]
@@ -175,8 +175,7 @@ fn finish_sheet(
     }
 }
 
-// The sheet on a board, from its insertions among those of a candidate. Free rectangles and guide are lent, so that no sheet has to make them: what
-// they held does not matter, and what they hold then is this sheet's.
+// The sheet on a board, from its insertions among those of a candidate. Free rectangles and guide are lent to work in: what they held does not matter.
 #[tactic(auto, using(trust::proofs::RoundTrip::sheet_length))]
 pub fn write_sheet(
     part: &mut [u32],

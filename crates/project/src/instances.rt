@@ -16,7 +16,7 @@ use crate::RawRecord;
 use arrayvec::ArrayVec;
 use model::{CutInstance, PatternDirection, StockInstance};
 
-// The pattern that the definition reads, whatever code stands in the file. No `From`: a number means a pattern in a file only.
+// The pattern that a code of the file means, as in the definition. Refusal 5 leaves the codes 0 to 2.
 #[tactic(auto, using(crate::proofs::instances::Made::patterns))]
 fn pattern_of(code: u32) -> PatternDirection
     ensures { result ≡ pattern_of code }

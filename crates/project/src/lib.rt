@@ -81,15 +81,14 @@ impl Refusal {
 
 // ---- records
 
-// What a file has; `line::Kind` is what a typed line names, in a crate that this one does not need. Each use matches it once, for its data.
+// What a record is of. A line that a person types has a kind of its own (`typed`).
 #[derive(Clone, Copy, PartialEq, Eq)]
 pub enum Kind {
     Stock,
     Cut,
 }
 
-// A stock or cut record as it stands in the file; `flag` is finite or can_rotate. Its codes stay numbers: the checks are about numbers that
-// no enum has.
+// A stock or cut record as it stands in the file; `flag` is finite or can_rotate. Its codes are numbers, since the checks speak of codes that mean nothing.
 #[derive(Clone, Copy)]
 pub struct RawRecord {
     pub id: u64,
@@ -107,7 +106,7 @@ pub fn record_count(body: &[u8]) -> usize
     body.len() / RECORD_LENGTH
 }
 
-// Record i of a body, by its number as in the definition: checks and instances count records.
+// Record i of a body, counted from zero.
 pub fn record_at(body: &[u8], i: usize) -> RawRecord
     requires { record_length * i + record_length ≤ length body.now }
     ensures { record_of result ≡ record_at body.now i }

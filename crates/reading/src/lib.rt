@@ -7,8 +7,7 @@ ghost use Rattle.std.specs.Io.KnownBytes.{Consumes, IsAtEnd};
 use std::io;
 use std::io::Read;
 
-// Reads until the buffer is full or the input ends, and says how many bytes it put at the buffer's start. Each turn goes on by what a read gave, so
-// no index is counted.
+// Reads until the buffer is full or the input ends, and says how many bytes it put at the buffer's start.
 pub fn read_full<R: Read>(input: &mut R, buffer: &mut [u8]) -> io::Result<usize>
     ensures within { IfOk result (λ size. size ≤ length buffer.new) }
     ensures bytes { IfOk result (λ size. Consumes (R.remaining input.old) (R.remaining input.new) (take size buffer.new)) }

@@ -34,7 +34,7 @@ const MOST: usize = 48;
 
 // ---- the first population
 
-// Its private functions that call no method of the problem before they need that it is sound say so: `candidate_from_seed`, `show_sheets`, `improve`.
+// A method of the problem tells that it is sound. The private functions that need this before they call one have it as a clause.
 
 fn candidate_from_seed(
     free: &mut [FreeRects; 64],

@@ -24,7 +24,7 @@ pub struct CandidateSeed {
     pub heuristic: BaselineGuillotineHeuristic,
 }
 
-// What is left of PopulationPipelineConfig: max_candidates cuts nothing off. `variants` is a setting, beside which no value stands.
+// PopulationPipelineConfig without max_candidates, which cuts nothing off. `variants`: whether the other rows make seeds too.
 #[derive(Clone, Copy)]
 pub struct SearchNumbers {
     pub variants: bool,
@@ -127,8 +127,7 @@ pub fn default_heuristic(rows: &[BaselineGuillotineHeuristic]) -> BaselineGuillo
 
 // ---- seeds
 
-// Rows and numbers are apart as in the source, where the rows are the backend's and the numbers the config's. Their limits are clauses of what
-// needs them: the seeds alone have none.
+// Rows and numbers are two parameters, as in the source, where the rows are the backend's and the numbers the config's.
 
 // How many seeds have the sorted order: one, and with variants one for each row.
 fn sorted_seeds(rows: &[BaselineGuillotineHeuristic], n: SearchNumbers) -> usize

@@ -11,9 +11,8 @@ use words::copying;
 // The words of a slot.
 pub const STORED: usize = 130;
 
-// Slots that follow one another: the first, and how many they are. What stands in them is a fact of the workspace's words, and
-// how many they may be differs by what is done with them, so both are clauses; a struct that held the words too would have to say in each function
-// that it holds the same ones.
+// Slots that follow one another: the first, and how many they are. What stands in them, and how many they may be, is said by the clauses of the
+// functions that use them.
 #[derive(Clone, Copy)]
 pub struct Slots {
     pub base: usize,

@@ -8,7 +8,7 @@ ghost use Rattle.sheet.specs.Bounds.{Small};
 
 use model::Rect;
 
-// Sides in range and a thin kerf are clauses: as types they would be opened at each sum.
+// That sides are in range and the kerf is thin is said in clauses: a type for it would be opened at each sum.
 // Whether the second rectangle lies right below the first, a kerf away.
 fn below(a: Rect, b: Rect, kerf_width: u32) -> bool
     requires { Small a × (kerf_width ≤ most_side) }
@@ -17,7 +17,7 @@ fn below(a: Rect, b: Rect, kerf_width: u32) -> bool
     a.x == b.x && a.width == b.width && a.y + a.length + kerf_width == b.y
 }
 
-// The same to its right. One function for both axes would pick each field by the axis, so there are two.
+// The same to its right. One function for both would pick each field by the axis.
 fn beside(a: Rect, b: Rect, kerf_width: u32) -> bool
     requires { Small a × (kerf_width ≤ most_side) }
     ensures { result ≡ beside kerf_width a b }

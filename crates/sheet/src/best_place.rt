@@ -9,8 +9,7 @@ use fits::patterns::Ways;
 use fits::{choice, patterns};
 use model::{BaselineGuillotineHeuristic, CutInstance, FitResult, PatternDirection, Rect};
 
-// Sides, cut and pattern are apart as in the source: a struct of them would be made for one call and taken apart in it. A rectangle has its number
-// beside it as a slice numbers it.
+// Sides, cut and pattern are parameters of their own, as in the source.
 
 // The first rectangle from an index on in which a cut of these sides fits in one of the ways.
 fn next_fit(free: &[Rect], ways: Ways, width: u32, length: u32, from: usize) -> Option<usize>
@@ -76,8 +75,8 @@ fn consider_rect(
     best
 }
 
-// The first fit of lowest score, by rectangle and then by fit. One `for` over all rectangles was proved too: an attempt that finds nothing
-// then took up to twice as long.
+// The first fit of lowest score, by rectangle and then by fit. It passes over rectangles without a fit first: with one `for` over all, an attempt that
+// finds nothing takes up to twice as long.
 pub fn best_fit(
     free: &[Rect],
     cut: CutInstance,

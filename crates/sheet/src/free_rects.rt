@@ -13,7 +13,7 @@ use std::marker::Model;
 // A sheet of 64 pieces has at most 65 free rectangles.
 pub const MOST_RECTS: usize = 65;
 
-// With the kit's `ArrayVec` inside it was proved too, and a plan took up to 8 percent longer: that writes a blank where a rectangle is removed.
+// The kit's `ArrayVec` in its place makes a plan up to 8 percent slower: it writes a blank where a rectangle is removed.
 #[derive(Drop)]
 pub struct FreeRects {
     rects: [Rect; MOST_RECTS],

@@ -17,7 +17,7 @@ use model::{
     BaselineGuillotineHeuristic, CutInstance, Direction, FitResult, PatternDirection, Rect,
 };
 
-// Kerf, cut and heuristic are apart, here and in `placing`, as in the source: a struct of them would be made for one call and taken apart in it.
+// Kerf, cut and heuristic are parameters of their own, here and in `candidate::placing`, as in the source.
 
 // The free rectangle at the index gives way to what the piece leaves of it. Says whether free rectangles merged then.
 fn insert_at(
@@ -37,7 +37,7 @@ fn insert_at(
     merging::merge_free_rects(free, kerf_width, fresh)
 }
 
-// Where a cut was inserted, and whether free rectangles merged then: no value is there in the one case only.
+// Where a cut was inserted, and whether free rectangles merged then.
 #[derive(Clone, Copy)]
 pub struct Inserted {
     pub index: usize,

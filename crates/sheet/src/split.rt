@@ -8,8 +8,7 @@ ghost use Rattle.sheet.specs.Bounds.{Small, Inside};
 
 use model::{Direction, Rect};
 
-// A free rectangle and the piece in its corner go apart from function to function, here and in the crates above, as in the source: a struct of
-// both would be taken apart in each. That the one is inside the other is a clause.
+// A free rectangle and the piece in its corner are two parameters, here and in the crates above, as in the source. That the piece is inside is a clause.
 
 // The remainders' other side: a horizontal split gives the bottom one the whole width, a vertical one the right one the whole length.
 fn bottom_width(direction: Direction, free_rect: Rect, placed: Rect) -> u32
@@ -63,7 +62,7 @@ pub fn bottom_remainder(
     })
 }
 
-// What is left to its right, if it is larger than the kerf. One function for both sides would pick each field by the side, so there are two.
+// What is left to its right, if it is larger than the kerf. One function for both sides would pick each field by the side.
 #[tactic(auto, unfolding(model::specs::Split::right_remainder))]
 pub fn right_remainder(
     free_rect: Rect,

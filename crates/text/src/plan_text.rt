@@ -35,7 +35,7 @@ fn put_field<const N: usize>(number: u64, text: &mut Buffer<N>)
     text.push_decimal(number);
 }
 
-// As many words from one on. No slice: a plan's words may count more than they hold.
+// As many words from one on. They are no slice, since a plan's words may count more than they hold.
 fn put_fields<const N: usize>(words: &[u32], from: usize, many: usize, text: &mut Buffer<N>)
     requires { from + many < 2 ^ 41 }
     ensures { text.new ≡ with_bytes N text.old (concat_map (field_at words.now from) (range many)) }
@@ -63,7 +63,7 @@ fn word_line<const N: usize>(
     text.push(b'\n');
 }
 
-// The same with an id before the words: one function over both would take whether there is one.
+// The same with an id before the words. One function for both would take a flag.
 fn id_line<const N: usize>(
     keyword: &[u8],
     words: &[u32],

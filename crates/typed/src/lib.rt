@@ -43,7 +43,7 @@ impl Records {
         }
     }
 
-    // A sixty-fifth fields is left out.
+    // A sixty-fifth is left out.
     fn push(&mut self, fields: Fields) -> Result<(), Reason>
         ensures answer { result ≡ answer_of (too_many (length self.old)) }
         ensures records { self.new ≡ pushed self.old fields }
@@ -59,8 +59,7 @@ impl Records {
     }
 }
 
-// The settings are the numbers that the file has: a typed word is a place in a table, and the file a byte, so an enum between them would be made
-// and unmade at once.
+// The settings are the file's numbers: a typed word is a place in a table, and that place is the number in the file.
 #[derive(Drop)]
 struct Draft {
     kerf: u64,

@@ -45,15 +45,15 @@ pub enum Setting {
     Unit,
 }
 
-// What a line names; `project::Kind` is what a file has, in a crate that this one does not need.
+// What a line names.
 #[derive(Clone, Copy, Debug, PartialEq, Eq)]
 pub enum Kind {
     Board,
     Panel,
 }
 
-// The fields of a record of the project file, as numbers as they are there: a typed word is a place in a table, so an enum between them would be
-// made and unmade at once. `flag` is finite or can_rotate.
+// The fields of a record, as the numbers that the project file has: a typed word is a place in a table, and that place is the number.
+// `flag` is finite or can_rotate.
 #[derive(Clone, Copy, Debug, PartialEq, Eq, Default)]
 pub struct Fields {
     pub id: u64,
@@ -64,7 +64,7 @@ pub struct Fields {
     pub flag: u64,
 }
 
-// What a line says; a setting with its number in the project file. A blank line is one of those that a text has, and is counted like the others.
+// What a line says; a setting with its number in the project file.
 #[derive(Clone, Copy, Debug, PartialEq, Eq)]
 pub enum Line {
     Blank,
@@ -72,7 +72,7 @@ pub enum Line {
     Record(Kind, Fields),
 }
 
-// What a line begins with: both are words of lines, and none is the other's absence.
+// What a line begins with.
 #[derive(Clone, Copy)]
 enum Keyword {
     Setting(Setting),

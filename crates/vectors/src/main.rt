@@ -32,7 +32,7 @@ fn is_equal(file: &[u8], text: &[u8]) -> bool {
     printed.as_slice() == text
 }
 
-// It goes on while there is a pair: a pair is as long as its own words say, so no method cuts the corpus.
+// It goes on while there is a pair; how long a pair is, its own words say.
 fn replay(corpus: &[u8]) -> Tally {
     let mut tally = Tally::default();
     let mut rest = corpus;
@@ -63,7 +63,7 @@ fn tell(rt: &impl Print, tally: Tally) -> io::Result<()> {
     Ok(())
 }
 
-// Room for a corpus. Where its length is seen, and not said by a contract, the proof of what uses it counts through a million zeros.
+// Room for a corpus. Its length is said by a contract, so that no proof has to count it.
 fn room() -> [u8; 1_048_576]
     ensures { 1_048_576 ≡ length result }
 {

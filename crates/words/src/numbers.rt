@@ -3,7 +3,7 @@
 ghost use Rattle.std.specs.Prelude.{◌≡◌, ◌+◌, ◌*◌, ◌/◌, ◌%◌, ◌^◌, ◌≤◌, length, take, drop};
 ghost use Rattle.model.specs.Project.{number};
 
-// A u64 in two words of a plan, low then high: which half a word is no conversion of the library's says.
+// A u64 in two words of a plan, low then high.
 pub fn from_halves(low: u32, high: u32) -> u64
     ensures { result ≡ low + 2 ^ 32 * high }
 {
@@ -22,7 +22,7 @@ pub fn high_word(number: u64) -> u32
     (number >> 32) as u32
 }
 
-// A number's place is a number beside the bytes, as the file's format gives it.
+// The place of a number is an index beside the bytes, as the format of the file gives it.
 fn bytes_at<const N: usize>(file: &[u8], at: usize) -> [u8; N]
     requires { at + N ≤ length file.now }
     ensures { result ≡ take N (drop at file.now) }
