@@ -79,4 +79,4 @@ winner_is rows inst n h population e f =
 
 pub behind_kept : (before after : List ℕ) → OnlySlots 0 96 before after → behind_slots after ≡ behind_slots before
 unfolding behind_slots
-behind_kept before after o = o.high
+behind_kept before after o = o.behind_them

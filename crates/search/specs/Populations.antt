@@ -34,8 +34,8 @@ pub record Stores (inst : ProblemInstance) (ws : List ℕ) (base n : ℕ) (cs : 
 
 -- all words but those of the slots from lo on and before hi are as found
 pub record OnlySlots (lo hi : ℕ) (before after : List ℕ) : Type 0 where
-  pub low : take (slot_words * lo) after ≡ take (slot_words * lo) before
-  pub high : drop (slot_words * hi) after ≡ drop (slot_words * hi) before
+  pub before_them : take (slot_words * lo) after ≡ take (slot_words * lo) before
+  pub behind_them : drop (slot_words * hi) after ≡ drop (slot_words * hi) before
 
 -- what a step of the search makes of a population, in its own place or another
 abbrev pub PopulationBecomes : ProblemInstance → (ProblemInstance → List Candidate → List Candidate) → (before : List ℕ) (base n : ℕ) (after : List ℕ) (to m : ℕ) → Type 0

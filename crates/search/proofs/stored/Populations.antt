@@ -30,7 +30,7 @@ module _ (lo hi : ℕ) (before after : List ℕ) (o : OnlySlots lo hi before aft
   slot_low k h =
       let fits : slot_words * k + slot_words ≤ slot_words * lo = omega arith in
       sym (part_take (slot_words * k) slot_words (slot_words * lo) after fits)
-      ∙ ap (λ (l : List ℕ). part l (slot_words * k) slot_words) o.low
+      ∙ ap (λ (l : List ℕ). part l (slot_words * k) slot_words) o.before_them
       ∙ part_take (slot_words * k) slot_words (slot_words * lo) before fits
 
   slot_high : (k : ℕ) → hi ≤ k → slot_of after k ≡ slot_of before k
@@ -39,7 +39,7 @@ module _ (lo hi : ℕ) (before after : List ℕ) (o : OnlySlots lo hi before aft
       let from : (l : List ℕ) → drop (slot_words * k - slot_words * hi) (drop (slot_words * hi) l) ≡ drop (slot_words * k) l =
       λ l. drop-drop (slot_words * k - slot_words * hi) (slot_words * hi) l ∙ ap (λ (m : ℕ). drop m l) far
       in
-      ap (take slot_words) (sym (from after) ∙ ap (drop (slot_words * k - slot_words * hi)) o.high ∙ from before)
+      ap (take slot_words) (sym (from after) ∙ ap (drop (slot_words * k - slot_words * hi)) o.behind_them ∙ from before)
 
   pub slot_kept : (k : ℕ) → (k < lo) ⊎ (hi ≤ k) → slot_of after k ≡ slot_of before k
   slot_kept k (inl h) = slot_low k h
@@ -54,22 +54,22 @@ module _ (lo hi : ℕ) (before after : List ℕ) (o : OnlySlots lo hi before aft
       in
       let fits : slot_words * l ≤ slot_words * lo = omega arith in
       record {
-        low = sym (take-take (slot_words * l) (slot_words * lo) after fits) ∙ ap (take (slot_words * l)) o.low ∙ take-take (slot_words * l) (slot_words * lo) before fits;
-        high = sym (from after) ∙ ap (drop (slot_words * m - slot_words * hi)) o.high ∙ from before;
+        before_them = sym (take-take (slot_words * l) (slot_words * lo) after fits) ∙ ap (take (slot_words * l)) o.before_them ∙ take-take (slot_words * l) (slot_words * lo) before fits;
+        behind_them = sym (from after) ∙ ap (drop (slot_words * m - slot_words * hi)) o.behind_them ∙ from before;
       }
 
 pub only_none : (lo hi : ℕ) (ws : List ℕ) → OnlySlots lo hi ws ws
-only_none lo hi ws = record { low = refl; high = refl }
+only_none lo hi ws = record { before_them = refl; behind_them = refl }
 
 pub only_then : (lo hi : ℕ) (a b c : List ℕ) → OnlySlots lo hi a b → OnlySlots lo hi b c → OnlySlots lo hi a c
-only_then lo hi a b c o p = record { low = p.low ∙ o.low; high = p.high ∙ o.high }
+only_then lo hi a b c o p = record { before_them = p.before_them ∙ o.before_them; behind_them = p.behind_them ∙ o.behind_them }
 
 -- a patch within a slot
 pub patch_only : (ws : List ℕ) (slot : ℕ) (b : List ℕ) → slot_words * slot ≤ length ws → length b ≤ slot_words → OnlySlots slot (slot + 1) ws (patch ws (slot_words * slot) b)
 patch_only ws slot b h k =
     record {
-      low = take_patch (slot_words * slot) ws (slot_words * slot) b (omega arith) h;
-      high = drop_patch ws (slot_words * slot) b (slot_words * (slot + 1)) (omega arith) h;
+      before_them = take_patch (slot_words * slot) ws (slot_words * slot) b (omega arith) h;
+      behind_them = drop_patch ws (slot_words * slot) b (slot_words * (slot + 1)) (omega arith) h;
     }
 
 -- ---- populations
