@@ -1,4 +1,4 @@
-/* Plans the project file on standard input and says where each panel lies. `examples/plan.sh` builds it. */
+/* Plans the project file on standard input and says where each panel lies. docs/FORMAT.md says how to build it. */
 #include <inttypes.h>
 #include <stdio.h>
 

@@ -36,13 +36,15 @@ def main():
         if word in ("plan", "refused"):
             print(line.strip())
         elif word == "sheet":
-            sheets.append((rest, []))
+            sheets.append((rest, [], []))
         elif word == "piece":
             key, instance, x, y, w, l = rest[:6]
             sheets[-1][1].append((int(x), int(y), int(w), int(l), f"{key}.{instance}"))
-    for (key, instance, width, length, use, saw), pieces in sheets:
-        sawn = f", {saw} to saw" if int(saw) else ""
-        print(f"\nboard {key}.{instance}, {width} x {length}, {int(use) / 10:.1f} % used{sawn}")
+        elif word in ("cut", "leaf"):
+            sheets[-1][2].append(word)
+    for (key, instance, width, length, use, saw), pieces, guide in sheets:
+        sawn = f"{saw} to saw" if guide else "no sawing order: free pieces were joined"
+        print(f"\nboard {key}.{instance}, {width} x {length}, {int(use) / 10:.1f} % used, {sawn}")
         draw(int(width), int(length), pieces)
 
 
