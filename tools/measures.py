@@ -1,5 +1,5 @@
 #!/usr/bin/env python3
-"""measures.py: the lines of each crate for the table of docs/MEASURES.md. Lines without imports, comments and blanks."""
+"""measures.py: the lines of each crate, with its modules, for the table of docs/MEASURES.md. Lines without imports, comments and blanks."""
 import glob, re
 
 
@@ -8,7 +8,7 @@ def lines(crate, part, ending):
     for path in glob.glob(f"crates/{crate}/{part}/**/*{ending}", recursive=True):
         text = open(path).read()
         if ending == ".rt":
-            text = re.sub(r"^(ghost |pub )?use [^;]*;", "", text, flags=re.M)
+            text = re.sub(r"^ *(ghost |pub )?use [^;]*;", "", text, flags=re.M)
         for line in text.split("\n"):
             if line.strip() and not re.match(r"(--|//|#!|use |pub use |mod |pub mod )", line.strip()):
                 count += 1
