@@ -1,5 +1,5 @@
 #!/usr/bin/env python3
-"""Lists the places in src/ that have a form of the older language, by the points of docs/DESIGN-PASS.md.
+"""Lists the places in src/ that have a form of the older language, by the points of docs/DESIGN.md.
 
     tools/design_places.py [--list] [TREE]      TREE: a checkout, this one if none is named
 
