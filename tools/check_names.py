@@ -13,7 +13,8 @@ It reads the pages at the top, docs/*.md and tools/README.md, and the sources by
   File.name    in backticks: File is a file of specs/ or proofs/, or a record or type, and name stands in it.
 
 In docs/SOURCE_MAP.md the first column is the Rust's, and is not read; a bare name in the second is of the file named before it in the cell, and one in the
-third of the module named before it. In the tables of docs/ARCHITECTURE.md and docs/TRUSTED.md a bare word in backticks is a name of the repository, of any kind."""
+third of the module named before it. In the tables of docs/ARCHITECTURE.md and docs/TRUSTED.md a bare word in backticks is a name of the repository, of any kind.
+The script that a row of tools/README.md begins with is in tools/."""
 import glob, os, re, sys
 
 ELSEWHERE = {"std", "arrayvec", "crate", "super", "render"}  # the library, words of the language, and a module of the Rust source
@@ -109,6 +110,12 @@ def proof_paths_in(span, known):
     return [f"crates/{path}" for path in re.findall(r"(?<![\w/])\w+/(?:specs|proofs)/[\w./+-]*\w", span) if path.split("/")[0] in known]
 
 
+def scripts_in(line, page):
+    """The tools that a row of the table of tools names first."""
+    first = line.split("|")[1] if page == "tools/README.md" and line.startswith("|") else ""
+    return [f"tools/{name}" for name in re.findall(r"`(\w+\.\w+)", first)]
+
+
 def links_in(line, page):
     targets = re.findall(r"\]\(([^)#]+)[^)]*\)", line)
     return [os.path.normpath(os.path.join(os.path.dirname(page), t)) for t in targets if "://" not in t]
@@ -144,7 +151,7 @@ def faults_of_line(line, page, code, definitions, known, words):
         yield from faults_of_cell(definition, definitions, ".")
         yield from faults_of_cell(its_code, code, "::")
         read_part = definition + its_code
-    yield from (path for path in paths_in(line) + links_in(line, page) if not is_there(path))
+    yield from (path for path in paths_in(line) + links_in(line, page) + scripts_in(line, page) if not is_there(path))
     for span in re.findall(r"`([^`]*)`", read_part):
         yield from faults_of_span(span, code, definitions, known)
         if page in ("docs/ARCHITECTURE.md", "docs/TRUSTED.md") and line.startswith("|") and re.fullmatch(r"\w+", span) and span not in words:
