@@ -6,7 +6,8 @@
 It reads the pages at the top, docs/*.md and tools/README.md, and the sources by simple text. What must exist:
 
   a path       anywhere in a page: a word that begins with a folder of the repository, as tools/plan.sh or crates/*/specs, and in backticks
-               CRATE/specs/FILE and CRATE/proofs/FILE, with or without .antt. What lies in a folder out or target is built, and not looked for.
+               CRATE/specs/FILE and CRATE/proofs/FILE, with or without .antt, or specs/FILE.antt and proofs/FILE.antt of some crate.
+               What lies in a folder out or target is built, and not looked for.
   a link       [text](file), and in backticks the bare name of a page, as `DECISIONS.md`.
   crate::name  in backticks: whatever begins with a small letter and has a `::`. Its first word is a crate of crates.txt or one of ELSEWHERE, and the
                rest is a module of the crate, an item, or a field, variant or method. What begins with a capital, as `Candidate::new`, is the Rust's or the library's.
@@ -107,7 +108,9 @@ def paths_in(line):
 
 
 def proof_paths_in(span, known):
-    return [f"crates/{path}" for path in re.findall(r"(?<![\w/])\w+/(?:specs|proofs)/[\w./+-]*\w", span) if path.split("/")[0] in known]
+    of_one = [path for path in re.findall(r"(?<![\w/])\w+/(?:specs|proofs)/[\w./+-]*\w", span) if path.split("/")[0] in known]
+    of_some = [f"*/{path}" for path in re.findall(r"(?<![\w/*])(?:specs|proofs)/[\w/+-]+\.antt", span)]
+    return [f"crates/{path}" for path in of_one + of_some]
 
 
 def scripts_in(line, page):

@@ -1,3 +1,4 @@
+#!/usr/bin/env python3
 """Writes specs/Evaluate.antt: the list of every `unfoldable` definition that `answer` is made of."""
 import re, textwrap
 d='crates/model/specs/'
