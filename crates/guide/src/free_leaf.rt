@@ -19,7 +19,7 @@ fn is_free_leaf(node: &Node, target: Rect) -> bool
 
 // In the tree whose root is node `at`, first child before second. The search breaks off at the leaf's number, or goes on with the number past the tree.
 // Children come after their parent, so that the node count minus the number falls. The nodes run out only where they are no tree's.
-pub fn free_leaf_from(nodes: &[Node], at: usize, target: Rect) -> ControlFlow<usize, usize>
+fn free_leaf_from(nodes: &[Node], at: usize, target: Rect) -> ControlFlow<usize, usize>
     ensures { Searched nodes.now at target result }
 {
     let Some(node) = nodes.get(at) else {

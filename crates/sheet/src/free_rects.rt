@@ -101,7 +101,7 @@ impl FreeRects {
     }
 
     // What a split leaves of a rectangle, if anything, behind the last.
-    pub fn push_remainder(&mut self, remainder: Option<Rect>)
+    fn push_remainder(&mut self, remainder: Option<Rect>)
         requires { length self.old < MOST_RECTS }
         ensures { self.new ≡ self.old ++ option_to_list remainder }
     {
