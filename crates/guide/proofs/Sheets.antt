@@ -10,6 +10,7 @@ use Rattle.model.specs.Refusal.{most_side}
 use Rattle.model.specs.Split.{split_direction}
 use Rattle.model.specs.Merge.{merges_any}
 use Rattle.model.specs.Sheet.{GuillotineSheet, Insertion, Place, split_rects, split_tree, insert_at}
+use Rattle.trust.specs.Limits.{most_nodes}
 use Rattle.trust.proofs.Placing.{Good}
 use Rattle.trust.proofs.RectLayout.{layout_perm}
 use Rattle.trust.proofs.Sheet.{Sound, chosen_first, lies_positive}
@@ -39,7 +40,7 @@ module _ (kerf : ℕ) (s : GuillotineSheet) (i : Insertion) (p : Place) where
         bottom = omega (arith, within.bottom);
       }
 
--- ---- room for four nodes more, in 257 of them
+-- ---- room for four nodes more, among the most that a guide can have
 
-pub room : (nodes : List Node) (s : GuillotineSheet) → nodes ≡ guide_nodes s.slicing_tree → NodeCount s → length s.placed_pieces < 64 → length nodes + 4 ≤ 257
+pub room : (nodes : List Node) (s : GuillotineSheet) → nodes ≡ guide_nodes s.slicing_tree → NodeCount s → length s.placed_pieces < 64 → length nodes + 4 ≤ most_nodes
 room nodes s h c k = omega (arith, ap length h, length-map node_of (nodes_of s.slicing_tree))

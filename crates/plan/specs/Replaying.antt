@@ -15,6 +15,7 @@ use Rattle.model.specs.Split.{split_direction}
 use Rattle.model.specs.Sheet.{GuillotineSheet, rebuild, placed_area}
 use Rattle.model.specs.Expand.{ProblemInstance}
 use Rattle.model.specs.Plan.{piece_words, sheet_words}
+use Rattle.trust.specs.Limits.{most_nodes}
 use Rattle.trust.proofs.Ranges.{BoardRange}
 use Rattle.trust.proofs.Bounded.{Bounded}
 use Rattle.sheet.specs.Places.{Shows}
@@ -62,7 +63,7 @@ pub record Replayable (inst : ProblemInstance) (words : List ℕ) (board : ℕ) 
 -- room for a piece's words, and for its subtree in the guide
 pub record Takeable (pieces : List ℕ) (guide : List Node) (free_rect : Rect) (fit : FitResult) (p : Progress) : Type 0 where
   pub room : 9 * p.pieces + 9 ≤ length pieces
-  pub space : length guide + 4 ≤ 257
+  pub space : length guide + 4 ≤ most_nodes
   pub corner : InCorner free_rect fit.rect
   pub area : p.placed + area fit.rect < 2 ^ 64
 

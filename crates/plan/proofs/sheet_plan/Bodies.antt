@@ -16,7 +16,7 @@ use Rattle.model.specs.Types.{stock_area}
 use Rattle.model.specs.Refusal.{most_side}
 use Rattle.model.specs.Sheet.{GuillotineSheet}
 use Rattle.model.specs.Plan.{rect_words, piece_words, nodes_of, node_words, use_of, saw_of, sheet_words}
-use Rattle.trust.specs.Limits.{most_area}
+use Rattle.trust.specs.Limits.{most_area, most_nodes}
 use Rattle.trust.proofs.Bounded.{Bounded, placed_most, board_area_most}
 use Rattle.trust.proofs.RoundTrip.{sheet_length, waste_size_lem, pieces_size}
 use Rattle.trust.proofs.PlanRange.{saw_range}
@@ -78,7 +78,7 @@ module _ (kerf : ℕ) (s : GuillotineSheet) (rects : List Rect) (guide : List No
     pub few_rects : length rects ≤ 65
     few_rects = omega (arith, free_count_lem, bounded.free)
 
-    pub few_nodes : length guide ≤ 257
+    pub few_nodes : length guide ≤ most_nodes
     few_nodes = omega (arith, node_count_lem, bounded.nodes)
 
     pub sawable : Language.sum (map saws.saw_of guide) < 2 ^ 32
@@ -142,7 +142,7 @@ pub record Sizes (part : List ℕ) (rects : List Rect) (guide : List Node) (stoc
   pub fits : 10 + 9 * p.pieces + 4 * length rects + 8 * length guide ≤ length part
   pub pieces : p.pieces ≤ 64
   pub rectangles : length rects ≤ 65
-  pub nodes : length guide ≤ 257
+  pub nodes : length guide ≤ most_nodes
   pub sawable : Language.sum (map saws.saw_of guide) < 2 ^ 32
   pub positive : 0 < stock_area stock
   pub most : stock_area stock ≤ most_area
