@@ -1,7 +1,6 @@
 // The problem of a search: the boards in the order of first fit, the cuts in file order, and the kerf (`ProblemInstance`).
 
 ghost use Rattle.std.specs.Prelude.{◌≡◌, ◌<◌, length};
-ghost use Rattle.model.specs.Expand.{ProblemInstance as Instance};
 ghost use Rattle.project.specs.Problem.{Sound, board_in, cut_in};
 
 use model::{CutInstance, StockInstance};
@@ -16,9 +15,9 @@ pub struct ProblemInstance<'a> {
 
 // Clauses see the definition's instance. Every one is sound.
 impl<'a> Model for ProblemInstance<'a> {
-    ghost use Rattle.model.specs.Expand.{ProblemInstance as Instance};
+    ghost use Rattle.model.specs.Expand.{ProblemInstance as Problem};
 
-    ghost Value = { Instance };
+    ghost Value = { Problem };
 
     ghost use Rattle.project.specs.Problem.{Sound};
 
