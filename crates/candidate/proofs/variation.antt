@@ -6,4 +6,4 @@ pub mod Compacting
 pub mod Pushes
 pub mod Picks
 pub mod Crossed
-pub mod Answers
+pub mod Outcomes

@@ -58,7 +58,7 @@ pub fn sheet_areas(inst: &ProblemInstance<'_>, c: &Candidate) -> ArrayVec<SheetA
     areas
 }
 
-// The first sheet whose fitness is better than that of any other. There is a sheet, by a clause, so the search cannot fail.
+// The first sheet that no other beats by this comparison. That there is a sheet is a clause, so the search cannot fail.
 fn first_best<F: Fn(f64, f64) -> bool>(sheets: &[SheetAreas], better: F) -> usize
     ghost order: { Float → Float → Bool }
     requires some { 0 < length sheets.now }

@@ -1,5 +1,5 @@
-// A candidate and what is done to one: `Candidate`, `StockInventory` and `CutCatalog` of the optimizer. Boards and cuts are known by
-// their places in the instance, and a sheet by its board and its insertions; its free rectangles stand with its board's number.
+// A candidate: one possible plan while the search works on it (`Candidate`, `StockInventory` and `CutCatalog` of the source). Boards and cuts are known by
+// their places in the problem, and a sheet by its board and its insertions; its free rectangles are kept apart, at the board's number.
 #![tactic(auto)]
 
 ghost use Rattle.std.specs.Prelude.{◌≡◌, ◌+◌, ◌≤◌, ◌<◌, get_or, length};
@@ -19,8 +19,8 @@ use model::{
 };
 use words::copying;
 
-// `boards` has all 64 numbers, the problem's first; the first `sheets` of them have a sheet. Whether a candidate stands depends on the problem too,
-// so each function that needs it says so in a clause.
+// `boards` is the numbers 0 to 63 in some order: the problem's boards come first, and the first `sheets` of these have a sheet. Whether it stands for a
+// candidate of a problem (`Stands`) depends on the problem too, so functions that need it have it as a clause.
 #[derive(Drop)]
 pub struct Candidate {
     // the boards: those of the sheets, in sheet order, then the available ones
@@ -147,7 +147,8 @@ impl Candidate {
         self.unused.push(cut);
     }
 
-    // The three ends of place_cut_first_fit, told by the board's index: a sheet's board, an available one, or past the `stock` boards, where the cut stays unused.
+    // The three ends of place_cut_first_fit, by the index of the board that took the cut: a sheet's; an available one, which becomes the last sheet's; or,
+    // from `stock` on, none, and the cut stays unused.
     pub fn take_place(&mut self, stock: usize, j: usize, cut: u32, h: BaselineGuillotineHeuristic)
         requires { (stock ≤ 64) × (j < stock → get_or self.old.boards j 0 < 64) × (cut < 64)
             × (length (placed_words self.old) < 64) × (length (unused_numbers self.old) < 64) }

@@ -17,7 +17,7 @@ pub struct CandidateScore {
     pub fitness: Option<f64>,
 }
 
-// partial_cmp, with Equal where there is none, as in the source: floats have no `Ord`. No fitness is less than any.
+// partial_cmp, with Equal where there is none, as in the source: floats have no `Ord`. None, of no sheets, is less than every fitness.
 #[tactic(auto, using(crate::proofs::scores::Order::fitness_order))]
 fn compare_fitness(left: Option<f64>, right: Option<f64>) -> Ordering
     ensures { order_of result ≡ compare_fitness (option_of left) (option_of right) }

@@ -17,7 +17,7 @@ use sheet::free_rects::FreeRects;
 
 // ---- compaction
 
-// The board at an index goes behind the first `count`, and those between move down.
+// The board at an index becomes the last of the first `count`, and those behind it move down by one.
 fn return_stock(boards: &mut [u32; 64], count: usize, index: usize)
     requires { (index < count) × (count ≤ 64) }
     ensures { boards.new ≡ put_back boards.old count index }
@@ -99,7 +99,7 @@ fn place_among(boards: &[u32], board: u32) -> Option<usize>
 
 // ---- crossover: the child
 
-// The board before the other boards of the first parent, for the sheet that was made.
+// Gives the sheet that was made its boards: its own first, then the other boards of the first parent in their order.
 fn child_sheet(left: &Candidate, made: &mut Candidate, board: u32)
     requires { place_among board left.now.boards < 64 }
     ensures { made.new ≡ sheet_of left.now made.old board }

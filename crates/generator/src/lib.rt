@@ -12,7 +12,7 @@ use std::marker::Model;
 
 // The state after a step.
 #[tactic(auto, unfolding(model::specs::TinyPrng::next_state))]
-pub fn next_state(state: u64) -> u64
+fn next_state(state: u64) -> u64
     ensures { result ≡ next_state state }
 {
     state.wrapping_add(0x9E37_79B9_7F4A_7C15)
@@ -20,7 +20,7 @@ pub fn next_state(state: u64) -> u64
 
 // The value of a state that a step has reached.
 #[tactic(auto, unfolding(model::specs::TinyPrng::value_of))]
-pub fn value_of(state: u64) -> u64
+fn value_of(state: u64) -> u64
     ensures { result ≡ value_of state }
 {
     let a = (state ^ (state >> 30)).wrapping_mul(0xBF58_476D_1CE4_E5B9);
@@ -47,12 +47,6 @@ impl TinyPrng {
         ensures { result ≡ seed }
     {
         Self { state: seed }
-    }
-
-    pub fn state(&self) -> u64
-        ensures { result ≡ self.now }
-    {
-        self.state
     }
 
     pub fn next_u64(&mut self) -> u64

@@ -8,10 +8,10 @@ use Rattle.guide.specs.declared.subtree.Node.{Node}
 use Rattle.guide.specs.declared.subtree.Node.TheVariants as node
 
 -- the length of the cut that a node is, if it is one
-abbrev pub saw_of : Node → ℕ
-saw_of (node.Cut work orientation offset kerf) = along_cut orientation work
-saw_of (node.Piece r key) = 0
-saw_of (node.Free r) = 0
+abbrev pub node_saw : Node → ℕ
+node_saw (node.Cut work orientation offset kerf) = along_cut orientation work
+node_saw (node.Piece r key) = 0
+node_saw (node.Free r) = 0
 
 -- all cuts' lengths
 abbrev pub saw_of_guide : Option SliceNode → ℕ

@@ -17,8 +17,8 @@ fn is_free_leaf(node: &Node, target: Rect) -> bool
     }
 }
 
-// In the tree whose root is node `at`, first child before second. The search breaks off at the leaf's number, or goes on with the number past the tree.
-// Children come after their parent, so that the node count minus the number falls. The nodes run out only where they are no tree's.
+// In the tree whose root is node `at`, first child before second. `Break(n)`: node n is the leaf. `Continue(n)`: the tree has no such leaf and ends before
+// node n. Children come after their parent, so the number of nodes left falls. The nodes run out only where they are no tree's.
 fn free_leaf_from(nodes: &[Node], at: usize, target: Rect) -> ControlFlow<usize, usize>
     ensures { Searched nodes.now at target result }
 {

@@ -1,4 +1,4 @@
-// The cutting guide of one sheet while its making is replayed, and what is read off it.
+// The cutting guide of a sheet: the tree of saw cuts from the whole board to its pieces and waste. It is made while the sheet is made again.
 #![tactic(auto)]
 
 ghost use Rattle.std.specs.Prelude.{◌≡◌, ◌+◌, ◌≤◌, ◌<◌, length};
@@ -25,7 +25,7 @@ pub fn new_guide<const N: usize>(guide: &mut ArrayVec<Node, N>, board: Rect)
     guide.push(Node::Free(board));
 }
 
-// The first such leaf's place becomes the subtree's root; where there is no such leaf, there is no guide.
+// The subtree takes the place of the first free leaf that is `target`; where there is none, there is no guide any more.
 fn replace_free_leaf<const N: usize>(guide: &mut ArrayVec<Node, N>, target: Rect, subtree: Subtree)
     requires { length guide.old.items + length (subtree_nodes subtree) ≤ N + 1 }
     ensures { ReplacesLeaf guide.old.items guide.new.items target subtree }

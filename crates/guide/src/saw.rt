@@ -1,14 +1,14 @@
 // A sheet's saw and use: how far its guide has the saw go, and how much of its board is placed.
 
 ghost use Rattle.std.specs.Prelude.{◌≡◌, ◌*◌, ◌/◌, ◌^◌, ◌≤◌, ◌<◌, map, sum};
-ghost use Rattle.guide.specs.Saws.{saw_of};
+ghost use Rattle.guide.specs.Saws.{node_saw};
 
 use super::subtree::Node;
 use model::Direction;
 
 // A horizontal cut is as long as its work rectangle is wide, a vertical one as that is long.
-fn saw_of(node: &Node) -> u32
-    ensures { result ≡ saw_of node.now }
+fn node_saw(node: &Node) -> u32
+    ensures { result ≡ node_saw node.now }
 {
     match *node {
         Node::Cut {
@@ -26,11 +26,11 @@ fn saw_of(node: &Node) -> u32
 }
 
 // The sum of the cuts' lengths.
-pub fn saw_length(nodes: &[Node]) -> u32
-    requires { sum (map saw_of nodes.now) < 2 ^ 32 }
-    ensures { result ≡ sum (map saw_of nodes.now) }
+pub fn saw_of(nodes: &[Node]) -> u32
+    requires { sum (map node_saw nodes.now) < 2 ^ 32 }
+    ensures { result ≡ sum (map node_saw nodes.now) }
 {
-    nodes.iter().map(|node| saw_of(node)).sum()
+    nodes.iter().map(|node| node_saw(node)).sum()
 }
 
 // The share of a board that is placed, in thousandths.

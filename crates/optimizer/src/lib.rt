@@ -1,5 +1,4 @@
-// The planner's entry: `optimize_with_config` from a project file to a plan or one numbered refusal, in lent memory. A plan is in the
-// plan memory.
+// The planner's entry: `optimize_with_config` from a project file to a plan or one numbered refusal, in lent memory.
 #![tactic(auto)]
 
 ghost use Rattle.std.specs.Prelude.{◌≡◌, ◌≤◌, length};

@@ -13,6 +13,7 @@ use Rattle.lists.specs.Base.{concat_map}
 use Rattle.lists.specs.Parts.{patch}
 use Rattle.lists.proofs.Sums.{map_append}
 use Rattle.lists.proofs.Maps.{concat_map_append, map_next}
+use Rattle.model.specs.Outcome.{least_plan}
 use Rattle.model.specs.declared.LayoutKind.{LayoutKind}
 use Rattle.model.specs.Sheet.{GuillotineSheet}
 use Rattle.model.specs.Fitness.{fitness, positive_zero, one}
@@ -65,7 +66,7 @@ module _ (inst : ProblemInstance) (r : Ranged inst) (k : Words) (st : Stands ins
     first_count : length (take j bins) ≡ j
     first_count = length-take-le j bins (omega (arith, bins_length inst r k st))
 
-    module _ (before plan : List ℕ) (room : 4500 ≤ length before) (at : ℕ) (areas : List SheetAreas) (so : WritesFrom (4 + 2 * k.sheets) (take j bins) before plan at areas) where
+    module _ (before plan : List ℕ) (room : least_plan ≤ length before) (at : ℕ) (areas : List SheetAreas) (so : WritesFrom (4 + 2 * k.sheets) (take j bins) before plan at areas) where
       pub ahead : at + length (sheet_words next) ≤ 4420
       ahead =
           omega (
@@ -100,7 +101,7 @@ module _ (inst : ProblemInstance) (r : Ranged inst) (k : Words) (st : Stands ins
     areas_held = (rw so.noted (areas_most inst r k st), rw so.noted (inside inst r k st))
 
     pub plan_written : (plan₁ : List ℕ) (bits low high : ℕ) → bits ≡ to_bits binary64 (Option.get_or (fitness_of b.areas.items) positive_zero)
-        → low ≡ bits % 2 ^ 32 → high ≡ bits / 2 ^ 32 → plan₁ ≡ patch plan 0 (k.sheets ∷ low ∷ high ∷ 0 ∷ []) → 4500 ≤ length before
+        → low ≡ bits % 2 ^ 32 → high ≡ bits / 2 ^ 32 → plan₁ ≡ patch plan 0 (k.sheets ∷ low ∷ high ∷ 0 ∷ []) → least_plan ≤ length before
         → Plans (candidate_plan (candidate_in inst k)) before plan₁ b.end
     plan_written plan₁ bits low high e l h w room =
         let f : Float = Option.get_or (fitness bins) positive_zero in

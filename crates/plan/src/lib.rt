@@ -2,6 +2,7 @@
 #![tactic(auto)]
 
 ghost use Rattle.std.specs.Prelude.{◌≡◌, [], ◌≤◌, length, option_map, unwrap_or};
+ghost use Rattle.model.specs.Outcome.{least_plan};
 ghost use Rattle.model.specs.Fitness.{one};
 ghost use Rattle.model.specs.Plan.{plan_words, sheet_part};
 ghost use Rattle.project.specs.Problem.{Sound};
@@ -32,7 +33,7 @@ pub struct Bodies {
 // The contents and the bodies, behind the plan's four first words. Two clauses: the plan memory is long enough, since C may lend a slice of any length;
 // and the problem is sound, since no method is called here that would tell.
 fn write_sheets(plan: &mut [u32], inst: &ProblemInstance<'_>, c: &Candidate) -> Bodies
-    requires { Sound inst.now × Stands inst.now [] c.now × (4500 ≤ length plan.old) }
+    requires { Sound inst.now × Stands inst.now [] c.now × (least_plan ≤ length plan.old) }
     ensures { WritesSheets (candidate_in inst.now c.now).bins plan.old plan.new result }
 {
     let insertions = c.insertions.as_slice();
@@ -53,7 +54,7 @@ fn write_sheets(plan: &mut [u32], inst: &ProblemInstance<'_>, c: &Candidate) -> 
 
 // into_solution of a candidate: the plan's words from the first on, all behind them as found. The answer is how many they are.
 pub fn write_plan(plan: &mut [u32], inst: &ProblemInstance<'_>, c: &Candidate) -> usize
-    requires { Stands inst.now [] c.now × (4500 ≤ length plan.old) }
+    requires { Stands inst.now [] c.now × (least_plan ≤ length plan.old) }
     ensures { Plans (candidate_plan (candidate_in inst.now c.now)) plan.old plan.new result }
 {
     // The problem is sound: the plan fits.
@@ -75,7 +76,7 @@ pub fn write_plan(plan: &mut [u32], inst: &ProblemInstance<'_>, c: &Candidate) -
 
 // The plan of no sheets, with fitness 1.0.
 pub fn empty_plan(plan: &mut [u32], layout: LayoutKind) -> usize
-    requires { 4500 ≤ length plan.old }
+    requires { least_plan ≤ length plan.old }
     ensures { Plans (plan_words layout one []) plan.old plan.new result }
 {
     copying::put_words(plan, 0, &[0, 0, 0x3FF0_0000, layout as u32]);

@@ -154,7 +154,7 @@ fn finish_sheet(
     plan_words::put_waste(part, behind, rects);
     let nodes = behind + 4 * rects.len();
     plan_words::put_nodes(part, nodes, guide);
-    let saw = saw::saw_length(guide);
+    let saw = saw::saw_of(guide);
     let area = numbers::area(stock.width, stock.length);
     let share = saw::used(p.placed, area);
     plan_words::put_head(

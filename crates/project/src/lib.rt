@@ -48,8 +48,8 @@ const RECORD_LENGTH: usize = 24;
 
 // ---- refusals
 
-// Why a project gets no plan, by the number that the entry answers. The smallest that applies is answered; but a record's are
-// 5, 6, 7, then 8 or 11, then 9, then 10 or 12, record by record.
+// Why a project gets no plan, by the number that the entry answers. They are looked for in this order: 1; 2; 3, 4; each stock record's 5 to 10; each cut
+// record's 5, 6, 7, 11, 9, 12; 13; 14; 15; 16; 17.
 #[derive(Clone, Copy, PartialEq, Eq)]
 pub enum Refusal {
     TooSmallMemory = 1,
@@ -88,7 +88,7 @@ pub enum Kind {
     Cut,
 }
 
-// A stock or cut record as it stands in the file; `flag` is finite or can_rotate. Its codes are numbers, since the checks speak of codes that mean nothing.
+// A stock or cut record as it stands in the file; `flag` is finite or can_rotate. Its codes are numbers, since the checks must see codes that mean nothing.
 #[derive(Clone, Copy)]
 pub struct RawRecord {
     pub id: u64,

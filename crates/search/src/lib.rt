@@ -1,5 +1,5 @@
-// The search: `initial_population`, `repair_population`, `compact_population`, `crossover_population`, `run_population_generations`, and
-// `optimize_population_pipeline` past its prefilter.
+// The search for the best candidate: a first population, generations of children, and the winner (`optimize_population_pipeline` past its prefilter,
+// `initial_population`, `run_population_generations` and what they call).
 // A population is in one of two regions of 48 slots, and a generation's survivors are in the other.
 #![tactic(auto)]
 
@@ -30,11 +30,11 @@ use sheet::free_rects::FreeRects;
 use stored::Slots;
 
 // The slots of a region: 32 survivors and 16 children.
-const MOST: usize = 48;
+const MOST_SLOTS: usize = 48;
 
 // ---- the first population
 
-// A method of the problem tells that it is sound. The private functions that need this before they call one have it as a clause.
+// A problem is always sound, but a proof knows it only after a call of one of its methods; a function that needs it earlier has it as a clause.
 
 fn candidate_from_seed(
     free: &mut [FreeRects; 64],
@@ -104,7 +104,7 @@ fn improve(
     placing::reinsert_unused_first_fit(free, inst, c, h);
 }
 
-// Every candidate of a population improved, each in its slot: the three passes of a generation are one.
+// Every candidate of a population improved, each in its slot. The source passes over the population three times; here each candidate is loaded once.
 fn improve_population(
     ws: &mut [u32],
     slots: Slots,
@@ -183,7 +183,7 @@ fn next_generation(
     let count = crossover_population(ws, slots, free, inst, h);
     let all = Slots { base, count };
     improve_population(ws, all, free, inst, h);
-    let to = MOST - base;
+    let to = MOST_SLOTS - base;
     let count = survival::survival_generation(ws, all, to, inst, survivors);
     Slots { base: to, count }
 }

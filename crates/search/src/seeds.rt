@@ -127,7 +127,7 @@ pub fn default_heuristic(rows: &[BaselineGuillotineHeuristic]) -> BaselineGuillo
 
 // ---- seeds
 
-// Rows and numbers are two parameters, as in the source, where the rows are the backend's and the numbers the config's.
+// Rows and numbers are two parameters, as in the source.
 
 // How many seeds have the sorted order: one, and with variants one for each row.
 fn sorted_seeds(rows: &[BaselineGuillotineHeuristic], n: SearchNumbers) -> usize

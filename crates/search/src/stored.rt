@@ -1,5 +1,5 @@
-// A candidate at rest in 130 words of the workspace: its sheets and its placed cuts counted, its 64 boards, then its insertions and
-// behind them its unused cuts, which are 64 together at most.
+// A candidate at rest in 130 words of the workspace. Word 0: how many sheets. Word 1: how many cuts are placed. Words 2 to 65: the boards. From word 66: the
+// insertions, then the unused cuts, at most 64 together.
 
 ghost use Rattle.std.specs.Prelude.{◌≡◌, ◌+◌, ◌*◌, ◌≤◌, length, get_or};
 ghost use Rattle.lists.specs.Parts.{patch};

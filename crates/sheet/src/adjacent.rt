@@ -8,7 +8,8 @@ ghost use Rattle.sheet.specs.Bounds.{Small};
 
 use model::Rect;
 
-// That sides are in range and the kerf is thin is said in clauses: a type for it would be opened at each sum.
+// That sides and kerf are in range is a clause and not a type, which would be opened at each sum.
+
 // Whether the second rectangle lies right below the first, a kerf away.
 fn below(a: Rect, b: Rect, kerf_width: u32) -> bool
     requires { Small a × (kerf_width ≤ most_side) }

@@ -8,7 +8,7 @@ pub mod split; // What a split leaves of a free rectangle
 pub mod free_rects; // A sheet's free rectangles, a vector of bounded length, and the split of one of them
 mod adjacent; // Whether two free rectangles lie a kerf apart along a common side, and what they make
 mod merging; // The merging of a sheet's free rectangles
-pub mod best_place; // The best place of a cut among a sheet's free rectangles
+mod best_place; // The best place of a cut among a sheet's free rectangles
 
 use best_place::ScoredPlace;
 use fits::choice;

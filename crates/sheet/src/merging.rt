@@ -60,8 +60,8 @@ fn touches(free: &[Rect], rect: Rect, kerf_width: u32) -> bool
     false
 }
 
-// Whether there is a pair that merges: each new rectangle is held against all before it. Most often there is none; the scan for the first pair in its
-// place makes a plan up to a sixth slower.
+// Whether there is a pair that merges: each new rectangle is held against all before it. Most often there is none, and with the scan for the first pair
+// alone a plan takes up to a sixth longer.
 fn merges(free: &[Rect], kerf_width: u32, fresh: usize) -> bool
     requires { Scannable kerf_width free.now fresh }
     ensures { result ≡ merges_any kerf_width free.now }
@@ -75,7 +75,7 @@ fn merges(free: &[Rect], kerf_width: u32, fresh: usize) -> bool
 }
 
 // Merges pairs until none is left, and says whether there was one. After each merge the scan starts again from the first pair;
-// left of the merged rectangle none merges. It is a `while`, since each merge changes the list that is scanned.
+// no two rectangles before the merged one merge. It is a `while`, since each merge changes the list that is scanned.
 #[tactic(auto, using(crate::proofs::merging::Rounds::left_within, crate::proofs::merging::Rounds::flag_stop, crate::proofs::merging::Rounds::merged_all))]
 pub fn merge_free_rects(free: &mut FreeRects, kerf_width: u32, mut fresh: usize) -> bool
     requires { Scannable kerf_width free.old fresh }

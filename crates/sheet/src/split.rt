@@ -29,7 +29,7 @@ fn right_length(direction: Direction, free_rect: Rect, placed: Rect) -> u32
     }
 }
 
-// Behind the piece the kerf is lost; what is left of the side counts only if it is larger than that: where it begins, and how long it is.
+// What a side has left behind the piece and the kerf, as its start and length; none unless more than a kerf lies behind the piece.
 fn rest_of_side(start: u32, side: u32, placed: u32, kerf_width: u32) -> Option<(u32, u32)>
     requires { (placed ≤ side) × (start + side ≤ most_side) }
     ensures { option_to_list result ≡ rest_behind kerf_width start side placed }

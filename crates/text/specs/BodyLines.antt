@@ -8,10 +8,6 @@ use Rattle.text.specs.PlanText.{field, piece_line, waste_line, node_line, sheet_
 unfoldable pub field_at : List ℕ → ℕ → ℕ → List ℕ
 field_at words from k = field (word words (from + k))
 
--- a u64 in two words, low then high
-abbrev pub id_at : List ℕ → ℕ → ℕ
-id_at words k = word words k + 2 ^ 32 * word words (k + 1)
-
 unfoldable pub piece_at : List ℕ → ℕ → List ℕ
 piece_at body at = piece_line (piece_in (take piece_size (drop at body)))
 

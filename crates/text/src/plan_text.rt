@@ -2,10 +2,10 @@
 
 ghost use Rattle.std.specs.Prelude.{◌≡◌, [], ◌∷◌, ◌++◌, ◌+◌, ◌*◌, ◌^◌, ◌<◌, get_or};
 ghost use Rattle.lists.specs.Base.{concat_map, range};
-ghost use Rattle.trust.specs.Words.{sheet_in, piece_size, waste_size, node_size};
+ghost use Rattle.trust.specs.Words.{u64_at, sheet_in, piece_size, waste_size, node_size};
 ghost use Rattle.words.specs.Appending.{with_bytes};
 ghost use Rattle.text.specs.PlanText.{field, first_line, sheet_text, sheet_texts, plan_text};
-ghost use Rattle.text.specs.BodyLines.{field_at, id_at, piece_at, waste_at, node_at};
+ghost use Rattle.text.specs.BodyLines.{field_at, piece_at, waste_at, node_at};
 
 use words::append::Buffer;
 use words::numbers;
@@ -21,7 +21,7 @@ fn word(words: &[u32], k: usize) -> u32
 // A u64 in two words, low then high.
 fn double(words: &[u32], k: usize) -> u64
     requires { k < 2 ^ 40 }
-    ensures { result ≡ id_at words.now k }
+    ensures { result ≡ u64_at words.now k }
 {
     numbers::from_halves(word(words, k), word(words, k + 1))
 }
@@ -35,7 +35,7 @@ fn put_field<const N: usize>(number: u64, text: &mut Buffer<N>)
     text.push_decimal(number);
 }
 
-// As many words from one on. They are no slice, since a plan's words may count more than they hold.
+// `many` words from `from` on. They are no slice: the counts in any words may promise more than there are.
 fn put_fields<const N: usize>(words: &[u32], from: usize, many: usize, text: &mut Buffer<N>)
     requires { from + many < 2 ^ 41 }
     ensures { text.new ≡ with_bytes N text.old (concat_map (field_at words.now from) (range many)) }
@@ -72,7 +72,7 @@ fn id_line<const N: usize>(
     text: &mut Buffer<N>,
 )
     requires { id + many < 2 ^ 40 }
-    ensures { text.new ≡ with_bytes N text.old (keyword.now ++ (field (id_at words.now id) ++ (concat_map (field_at words.now (id + 2)) (range many) ++ (10 ∷ [])))) }
+    ensures { text.new ≡ with_bytes N text.old (keyword.now ++ (field (u64_at words.now id) ++ (concat_map (field_at words.now (id + 2)) (range many) ++ (10 ∷ [])))) }
 {
     text.push_bytes(keyword);
     put_field(double(words, id), text);

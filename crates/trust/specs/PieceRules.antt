@@ -1,4 +1,4 @@
--- What a marker counts: the rules that need no making, on any words. It does not matter who drew the plan.
+-- What a marker checks of pieces and boards: the rules that need no making, on any words. It does not matter who drew the plan.
 use Rattle.std.specs.Prelude.{ℕ, ◌+◌, Bool, true, not, ◌&&◌, ◌||◌, List, [], ◌∷◌, map, T, leb, eqb, length}
 use Rattle.lists.specs.Base.{any, all, retain}
 use Rattle.model.specs.declared.Rect.{Rect}

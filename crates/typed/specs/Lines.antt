@@ -23,8 +23,8 @@ number most rest = found (decimal_value most (first_word rest)) rest
 abbrev pub choice : ℕ → List (List ℕ) → List ℕ → Option (ℕ × List ℕ)
 choice first table rest = found (code_in first table (first_word rest)) rest
 
-abbrev pub most_size : ℕ
-most_size = 2 ^ 32 - 1
+abbrev pub most_number : ℕ
+most_number = 2 ^ 32 - 1
 
 abbrev pub most_id : ℕ
 most_id = 2 ^ 64 - 1
@@ -37,7 +37,7 @@ behind None follows without rest = Some (without, rest)
 behind (Some k) follows without rest = follows k.1
 
 abbrev pub quantity : List ℕ → Option (ℕ × List ℕ)
-quantity rest = behind (choice 0 (ascii "x" ∷ []) rest) (number most_size) 1 rest
+quantity rest = behind (choice 0 (ascii "x" ∷ []) rest) (number most_number) 1 rest
 
 abbrev pub grain : List ℕ → Option (ℕ × List ℕ)
 grain rest = behind (choice 0 (ascii "grain" ∷ []) rest) (choice 1 (ascii "width" ∷ ascii "length" ∷ [])) 0 rest
@@ -62,7 +62,7 @@ abbrev pub ended : List ℕ → Line → Result Line Reason
 ended rest line = if is_empty (first_word rest) then Ok line else Err Reason.Extra
 
 abbrev pub setting_of : Setting → List ℕ → Option (ℕ × List ℕ)
-setting_of Setting.Kerf rest = number most_size rest
+setting_of Setting.Kerf rest = number most_number rest
 setting_of Setting.Layout rest = choice 0 (ascii "guillotine" ∷ ascii "nested" ∷ []) rest
 setting_of Setting.Effort rest = choice 0 (ascii "fast" ∷ ascii "balanced" ∷ ascii "thorough" ∷ []) rest
 setting_of Setting.Unit rest = choice 0 (ascii "mm" ∷ ascii "inch" ∷ ascii "foot" ∷ []) rest
@@ -79,8 +79,8 @@ setting_line setting rest = need (why_of setting) (setting_of setting rest) λ n
 unfoldable pub record_line : Kind → List ℕ → Result Line Reason
 record_line kind rest =
     need Reason.Number (number most_id rest) λ id r.
-    need Reason.Number (number most_size r) λ width s.
-    need Reason.Number (number most_size s) λ length t.
+    need Reason.Number (number most_number r) λ width s.
+    need Reason.Number (number most_number s) λ length t.
     need Reason.Number (quantity t) λ quantity u.
     need Reason.Choice (grain u) λ pattern v.
     need Reason.Choice (flag_of kind v) λ flag w.

@@ -43,7 +43,7 @@ unfoldable pub decimal_value : ℕ → List ℕ → Option ℕ
 decimal_value most [] = None
 decimal_value most (c ∷ cs) = read_digits most 0 (c ∷ cs)
 
--- the number of the word in a table, counted from one on
+-- the number of the word in a table, counted from k on
 unfoldable pub code_in : ℕ → List (List ℕ) → List ℕ → Option ℕ
 code_in k [] word = None
 code_in k (t ∷ ts) word = if bytes_eq word t then Some k else code_in (k + 1) ts word

@@ -59,7 +59,7 @@ impl Records {
     }
 }
 
-// The settings are the file's numbers: a typed word is a place in a table, and that place is the number in the file.
+// The settings are the file's numbers: the place of a typed word in its table.
 #[derive(Drop)]
 struct Draft {
     kerf: u64,

@@ -4,7 +4,7 @@ ghost use Rattle.std.specs.Prelude.{◌≡◌, Some};
 ghost use Rattle.typed.specs.Lines.{keyword_of, setting_line, record_line, line_of};
 ghost use Rattle.typed.specs.Messages.{message_of};
 
-use super::line_words::{MOST_SIZE, Words};
+use super::line_words::{MOST_NUMBER, Words};
 use std::error::Error;
 use std::fmt;
 
@@ -52,8 +52,8 @@ pub enum Kind {
     Panel,
 }
 
-// The fields of a record, as the numbers that the project file has: a typed word is a place in a table, and that place is the number.
-// `flag` is finite or can_rotate.
+// The fields of a record, as the numbers that the project file has: a typed word is its place in a table, of a grain one more. `flag` is finite or
+// can_rotate.
 #[derive(Clone, Copy, Debug, PartialEq, Eq, Default)]
 pub struct Fields {
     pub id: u64,
@@ -108,8 +108,8 @@ fn record_line(kind: Kind, mut words: Words) -> Result<Line, Reason>
 {
     let fields = Fields {
         id: words.number(u64::MAX)?,
-        width: words.number(MOST_SIZE)?,
-        length: words.number(MOST_SIZE)?,
+        width: words.number(MOST_NUMBER)?,
+        length: words.number(MOST_NUMBER)?,
         quantity: words.quantity()?,
         pattern: words.grain()?,
         flag: words.flag(kind),

@@ -8,7 +8,7 @@ ghost use Rattle.typed.specs.Lines.{IsTaken, number, choice, quantity, grain, fl
 
 use super::line::{Kind, Reason, Setting};
 
-pub const MOST_SIZE: u64 = u32::MAX as u64;
+pub const MOST_NUMBER: u64 = u32::MAX as u64;
 
 fn is_blank(byte: u8) -> bool
     ensures { result ≡ is_blank byte }
@@ -109,7 +109,7 @@ impl<'a> Words<'a> {
         if !self.skip(b"x") {
             return Ok(1);
         }
-        self.number(MOST_SIZE)
+        self.number(MOST_NUMBER)
     }
 
     pub fn grain(&mut self) -> Result<u64, Reason>
@@ -136,7 +136,7 @@ impl<'a> Words<'a> {
         ensures { IsTaken (setting_of setting self.old.rest.now) (why_of setting) result self.new.rest.now }
     {
         match setting {
-            Setting::Kerf => self.number(MOST_SIZE),
+            Setting::Kerf => self.number(MOST_NUMBER),
             Setting::Layout => self.choice(&[b"guillotine", b"nested"]),
             Setting::Effort => self.choice(&[b"fast", b"balanced", b"thorough"]),
             Setting::Unit => self.choice(&[b"mm", b"inch", b"foot"]),

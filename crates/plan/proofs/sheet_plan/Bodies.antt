@@ -64,9 +64,9 @@ module _ (kerf : ℕ) (s : GuillotineSheet) (rects : List Rect) (guide : List No
   pub body_length_lem : length (sheet_words s) ≡ 10 + 9 * p.pieces + 4 * length rects + 8 * length guide
   body_length_lem = omega (arith, sheet_length s, free_count_lem, state.pieces, node_count_lem)
 
-  sawn : Language.sum (map saws.saw_of guide) ≡ saw_of s
+  sawn : Language.sum (map saws.node_saw guide) ≡ saw_of s
   unfolding saw_of
-  sawn = ap (λ (ns : List Node). Language.sum (map saws.saw_of ns)) state.nodes ∙ saw_is s.slicing_tree
+  sawn = ap (λ (ns : List Node). Language.sum (map saws.node_saw ns)) state.nodes ∙ saw_is s.slicing_tree
 
   node_words_lem : concat_map words_of guide ≡ nodes s
   node_words_lem = ap (concat_map words_of) state.nodes ∙ nodes_words (nodes_of s.slicing_tree)
@@ -81,7 +81,7 @@ module _ (kerf : ℕ) (s : GuillotineSheet) (rects : List Rect) (guide : List No
     pub few_nodes : length guide ≤ most_nodes
     few_nodes = omega (arith, node_count_lem, bounded.nodes)
 
-    pub sawable : Language.sum (map saws.saw_of guide) < 2 ^ 32
+    pub sawable : Language.sum (map saws.node_saw guide) < 2 ^ 32
     unfolding saw_of
     sawable = omega (arith, sawn, saw_range kerf s thin bounded, bounded.nodes)
 
@@ -93,7 +93,7 @@ module _ (kerf : ℕ) (s : GuillotineSheet) (rects : List Rect) (guide : List No
     module _ (part₁ part₂ part₃ : List ℕ) (saw used area : ℕ)
         (second : part₁ ≡ patch part (10 + 9 * p.pieces) (concat_map rect_words rects))
         (third : part₂ ≡ patch part₁ (10 + 9 * p.pieces + 4 * length rects) (concat_map words_of guide))
-        (summed : saw ≡ Language.sum (map saws.saw_of guide)) (share : used ≡ p.placed * 1000 / area) (board : area ≡ stock_area s.stock)
+        (summed : saw ≡ Language.sum (map saws.node_saw guide)) (share : used ≡ p.placed * 1000 / area) (board : area ≡ stock_area s.stock)
         (fourth : part₃ ≡ patch part₂ 0 (head_words s.stock used saw p.pieces (length rects) (length guide))) where
       wasted : part₁ ≡ patch part (10 + 9 * p.pieces) (waste s)
       wasted = rw state.free.rects second
@@ -143,7 +143,7 @@ pub record Sizes (part : List ℕ) (rects : List Rect) (guide : List Node) (stoc
   pub pieces : p.pieces ≤ 64
   pub rectangles : length rects ≤ 65
   pub nodes : length guide ≤ most_nodes
-  pub sawable : Language.sum (map saws.saw_of guide) < 2 ^ 32
+  pub sawable : Language.sum (map saws.node_saw guide) < 2 ^ 32
   pub positive : 0 < stock_area stock
   pub most : stock_area stock ≤ most_area
   pub share : p.placed ≤ stock_area stock

@@ -10,11 +10,11 @@ use Rattle.lists.specs.Base.{concat_map, count_from, range}
 use Rattle.lists.proofs.Maps.{concat_map_map}
 use Rattle.lists.proofs.Counts.{counted_later}
 use Rattle.model.specs.Plan.{sheet_part}
-use Rattle.trust.specs.Words.{word, groups, key_at, rect_at, piece_in, waste_in, node_in, node_key, nodes_start, sheet_in, sheets_in}
+use Rattle.trust.specs.Words.{word, groups, u64_at, key_at, rect_at, piece_in, waste_in, node_in, node_key, nodes_start, sheet_in, sheets_in}
 use Rattle.words.specs.Ascii.{ascii}
 use Rattle.words.specs.Numerals.{hex_of}
 use Rattle.text.specs.PlanText.{field, line, key_fields, first_line, piece_line, waste_line, node_line, sheet_text, sheet_texts}
-use Rattle.text.specs.BodyLines.{field_at, id_at, piece_at, waste_at, node_at, sheet_at}
+use Rattle.text.specs.BodyLines.{field_at, piece_at, waste_at, node_at, sheet_at}
 use borrow.Author.Tests.{eq-eqb, ne_eqb}
 
 -- a word of a row is a word of the body
@@ -30,7 +30,7 @@ word_line keyword words from many = keyword ++ (concat_map (field_at words from)
 
 -- the same with an id before them
 abbrev id_line : List ℕ → List ℕ → ℕ → ℕ → List ℕ
-id_line keyword words id many = keyword ++ (field (id_at words id) ++ (concat_map (field_at words (id + 2)) (range many) ++ (10 ∷ [])))
+id_line keyword words id many = keyword ++ (field (u64_at words id) ++ (concat_map (field_at words (id + 2)) (range many) ++ (10 ∷ [])))
 
 module _ (body : List ℕ) (row : ℕ) where
   -- the words of a piece's, a waste rectangle's, a node's row
@@ -70,7 +70,7 @@ module _ (body : List ℕ) (row : ℕ) where
 
 -- ---- the first line, the groups of a body, the sheets of a plan
 
-pub first_line_lem : (words : List ℕ) → ascii "plan" ++ (concat_map (field_at words 0) (range 1) ++ (ascii " fitness " ++ (hex_of (id_at words 1) ++ word_line (ascii " layout") words 3 1))) ≡ first_line words
+pub first_line_lem : (words : List ℕ) → ascii "plan" ++ (concat_map (field_at words 0) (range 1) ++ (ascii " fitness " ++ (hex_of (u64_at words 1) ++ word_line (ascii " layout") words 3 1))) ≡ first_line words
 unfolding first_line line concat_map count_from field_at
 first_line_lem words = simp append_assoc
 

@@ -8,7 +8,7 @@ use Rattle.candidate.specs.declared.Candidate.{Candidate as Words}
 use Rattle.candidate.specs.Moves.{new_words}
 use Rattle.candidate.specs.Stands.{placed_words}
 use Rattle.candidate.specs.Donated.{with_insertions, donated}
-use Rattle.candidate.proofs.variation.Answers.{index_most, board_most, donor_few, index_found, made_rebuildable, answer_none, sheet_room, child_made}
+use Rattle.candidate.proofs.variation.Outcomes.{index_most, board_most, donor_few, index_found, made_rebuildable, answer_none, sheet_room, child_made}
 use Rattle.candidate.proofs.variation.child_of_sheet.Goals as goal
 
 pub offset_bounds-right-index : goal.offset_bounds-right-index

@@ -16,8 +16,8 @@ put_nodes-requires c =
     let z = (sizes c.args.part.now c.args.rects.now c.args.guide.now c.args.stock c.args.p c.requires) in
     omega (arith, z.fits, c.put_waste.auto.plan)
 
-pub saw_length-saw-requires : goal.saw_length-saw-requires
-saw_length-saw-requires c =
+pub saw_of-saw-requires : goal.saw_of-saw-requires
+saw_of-saw-requires c =
     let z = (sizes c.args.part.now c.args.rects.now c.args.guide.now c.args.stock c.args.p c.requires) in
     z.sawable
 
@@ -39,6 +39,6 @@ returns c =
       finishes = λ kerf t before board state size first.
           finished kerf t c.args.rects.now c.args.guide.now c.args.p state before c.args.part.now size
           (omega (arith, z.fits, body_length_lem kerf t c.args.rects.now c.args.guide.now c.args.p state)) first _ _ _ _ _ _
-          c.put_waste.ensures c.put_nodes.ensures c.saw_length-saw.ensures c.used-share.ensures
+          c.put_waste.ensures c.put_nodes.ensures c.saw_of-saw.ensures c.used-share.ensures
           (c.area-area.ensures ∙ ap (λ (b : StockInstance). stock_area b) (sym board)) (rw board c.put_head.ensures);
     }
