@@ -13,7 +13,7 @@ use Rattle.trust.proofs.Population.{survivors_length}
 use Rattle.search.specs.Slots.{slot_words}
 use Rattle.search.specs.Populations.{population_in, AllStand, Stores, OnlySlots}
 use Rattle.search.proofs.stored.Populations.{only_then, population_length}
-use Rattle.search.specs.Ranks.{Regions}
+use Rattle.search.specs.Ranks.{RegionsApart}
 use Rattle.search.specs.Improved.{improved}
 use Rattle.search.proofs.Passes.{passes_are}
 use Rattle.search.specs.Regions.{Region, behind_slots}
@@ -23,7 +23,7 @@ pub other : (base : ℕ) → Region base → Region (48 - base)
 other base (inl e) = inr (omega arith)
 other base (inr e) = inl (omega arith)
 
-pub regions : (base room : ℕ) → Region base → slot_words * 96 ≤ room → Regions room base (48 - base)
+pub regions : (base room : ℕ) → Region base → slot_words * 96 ≤ room → RegionsApart room base (48 - base)
 regions base room (inl e) h = (inl (omega arith), omega arith, omega arith)
 regions base room (inr e) h = (inr (omega arith), omega arith, omega arith)
 
