@@ -1,9 +1,16 @@
--- What the codes of the settings mean.
+-- What the codes of the settings and of a record mean.
 use Prim.Native.Nat.{ℕ, zero, suc}
 use mathlib.Core.Path.{◌≡◌, refl, ap}
 use Rattle.model.specs.declared.LayoutKind.{LayoutKind}
 use Rattle.model.specs.declared.OptimizerEffort.{OptimizerEffort}
-use Rattle.model.specs.Types.{layout_of, effort_of}
+use Rattle.model.specs.declared.PatternDirection.{PatternDirection}
+use Rattle.model.specs.Types.{layout_of, effort_of, pattern_of}
+
+-- a code that is neither 0 nor 1 means what all from 2 on mean
+from_two : {A : Type 0} (of : ℕ → A) (a : A) → ((n : ℕ) → of (suc (suc n)) ≡ a) → (n : ℕ) → (n ≡ 0 → ⊥) → (n ≡ 1 → ⊥) → of n ≡ a
+from_two of a others zero h k = absurd (h refl)
+from_two of a others (suc zero) h k = absurd (k refl)
+from_two of a others (suc (suc n)) h k = others n
 
 pub layout_zero : (n : ℕ) → n ≡ 0 → layout_of n ≡ LayoutKind.Guillotine
 layout_zero n e = ap layout_of e
@@ -19,10 +26,19 @@ pub effort_one : (n : ℕ) → n ≡ 1 → effort_of n ≡ OptimizerEffort.Balan
 effort_one n e = ap effort_of e
 
 pub effort_other : (n : ℕ) → (n ≡ 0 → ⊥) → (n ≡ 1 → ⊥) → effort_of n ≡ OptimizerEffort.Thorough
-effort_other zero h k = absurd (h refl)
-effort_other (suc zero) h k = absurd (k refl)
-effort_other (suc (suc n)) h k = refl
+effort_other = from_two effort_of OptimizerEffort.Thorough (λ n. refl)
+
+pub pattern_zero : (n : ℕ) → n ≡ 0 → pattern_of n ≡ PatternDirection.None
+pattern_zero n e = ap pattern_of e
+
+pub pattern_one : (n : ℕ) → n ≡ 1 → pattern_of n ≡ PatternDirection.ParallelToWidth
+pattern_one n e = ap pattern_of e
+
+pub pattern_other : (n : ℕ) → (n ≡ 0 → ⊥) → (n ≡ 1 → ⊥) → pattern_of n ≡ PatternDirection.ParallelToLength
+pattern_other = from_two pattern_of PatternDirection.ParallelToLength (λ n. refl)
 
 pub ruleset layouts = (layout_zero, layout_other)
 
 pub ruleset efforts = (effort_zero, effort_one, effort_other)
+
+pub ruleset patterns = (pattern_zero, pattern_one, pattern_other)

@@ -1,5 +1,5 @@
 -- A problem that no check refuses, and its boards and cuts by their places.
-use Rattle.std.specs.Prelude.{ℕ, ◌≤◌, List, false, length, get_or}
+use Rattle.std.specs.Prelude.{ℕ, false, get_or}
 use Rattle.model.specs.declared.PatternDirection.{PatternDirection}
 use Rattle.model.specs.declared.StockInstance.{StockInstance}
 use Rattle.model.specs.declared.CutInstance.{CutInstance}

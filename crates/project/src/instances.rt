@@ -17,7 +17,7 @@ use arrayvec::ArrayVec;
 use model::{CutInstance, PatternDirection, StockInstance};
 
 // The pattern that a code of the file means, as in the definition. Refusal 5 leaves the codes 0 to 2.
-#[tactic(auto, using(crate::proofs::instances::Made::patterns))]
+#[tactic(auto, using(crate::proofs::Codes::patterns))]
 fn pattern_of(code: u32) -> PatternDirection
     ensures { result ≡ pattern_of code }
 {

@@ -1,5 +1,5 @@
 -- The lines of a body's pieces, waste and nodes, by where each is in the body.
-use Rattle.std.specs.Prelude.{ℕ, ◌+◌, ◌*◌, ◌^◌, List, take, drop}
+use Rattle.std.specs.Prelude.{ℕ, ◌+◌, List, take, drop}
 use Rattle.model.specs.Plan.{sheet_part}
 use Rattle.trust.specs.Words.{word, piece_in, waste_in, node_in, sheet_in, piece_size, waste_size, node_size}
 use Rattle.text.specs.PlanText.{field, piece_line, waste_line, node_line, sheet_text}

@@ -1,8 +1,8 @@
 -- The instances of a file's records: how many, one record after the other, and the boards by the numbers of their order.
-use Prim.Native.Nat.{ℕ, zero, suc, ◌+◌, ◌/◌, ◌≤◌, ◌<◌}
+use Prim.Native.Nat.{ℕ, suc, ◌+◌, ◌/◌, ◌≤◌, ◌<◌}
 use native.Mathlib.Nat.{zero-add}
 use native.Mathlib.Omega.{arith}
-use mathlib.Core.Path.{◌≡◌, refl, sym, ap, ap₂, ◌∙◌, subst}
+use mathlib.Core.Path.{◌≡◌, sym, ap, ap₂, ◌∙◌, subst}
 use mathlib.Core.Bool.{false}
 use mathlib.Core.List.{List, [], ◌∷◌, ◌++◌, map, append_assoc, append-nil}
 use mathlib.Core.Option.{none}
@@ -16,9 +16,7 @@ use Rattle.lists.proofs.Sums.{length_count_from, length-map, length_counted, map
 use Rattle.lists.proofs.Every.{all_get}
 use Rattle.lists.proofs.Arrays.{take_next}
 use Rattle.lists.proofs.Counts.{count_snoc}
-use Rattle.model.specs.declared.PatternDirection.{PatternDirection}
 use Rattle.model.specs.declared.StockInstance.{StockInstance}
-use Rattle.model.specs.Types.{pattern_of}
 use Rattle.model.specs.Project.{Record, project_of, record_length}
 use Rattle.model.specs.Refusal.{Check, RecordRule, stock_rule, cut_rule, record_checks, settings_checks, whole_checks, project_checks, file_refusal, total_quantity}
 use Rattle.model.specs.Expand.{compare_stock, stock_instances, cut_instances, expand_project}
@@ -29,21 +27,6 @@ use Rattle.project.proofs.orders.Order.{length_sorted, sorted_below}
 use Rattle.project.specs.Records.{record_at, records}
 use Rattle.project.proofs.Records.{left, left_all, left_next, left_none}
 use Rattle.project.specs.Instances.{stock_instance, cut_instance, made_of}
-
--- ---- a code of a pattern
-
-pub pattern_zero : (code : ℕ) → code ≡ 0 → pattern_of code ≡ PatternDirection.None
-pattern_zero code e = ap pattern_of e
-
-pub pattern_one : (code : ℕ) → code ≡ 1 → pattern_of code ≡ PatternDirection.ParallelToWidth
-pattern_one code e = ap pattern_of e
-
-pub pattern_other : (code : ℕ) → (code ≡ 0 → ⊥) → (code ≡ 1 → ⊥) → pattern_of code ≡ PatternDirection.ParallelToLength
-pattern_other zero h k = absurd (h refl)
-pattern_other (suc zero) h k = absurd (k refl)
-pattern_other (suc (suc n)) h k = refl
-
-pub ruleset patterns = (pattern_zero, pattern_one, pattern_other)
 
 -- ---- the instances of a record, one more
 

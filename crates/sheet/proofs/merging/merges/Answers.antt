@@ -1,7 +1,6 @@
 -- `merging::merges` meets its contract.
 use native.Mathlib.Omega.{arith}
 use mathlib.Core.Path.{sym, ◌∙◌}
-use lib.ListN.{get_or}
 use Rattle.lists.proofs.Every.{all_get, all_take}
 use Rattle.model.specs.Types.{no_rect}
 use Rattle.model.specs.Merge.{merges_any}
