@@ -7,7 +7,8 @@ use mathlib.Core.List.{List, [], ◌∷◌, ◌++◌, map, append_assoc}
 use lib.ListN.{length, get_or, set, take, drop, take-append-drop, length-append}
 use lib.Seq.{take-append-le, drop-append-le, length-take-le, take-nil}
 use Rattle.lists.specs.Base.{count_from, range, remove_at}
-use Rattle.lists.proofs.Perm.{Perm, perm_sym, perm_middle, also, All, Pairs, all_map, pairs_perm, remove_at_perm, length_remove_at}
+use Rattle.lists.specs.Elements.{Perm, also, All, Pairs}
+use Rattle.lists.proofs.Perm.{perm_sym, perm_middle, all_map, pairs_perm, remove_at_perm, length_remove_at}
 use Rattle.lists.proofs.Counts.{count_rises}
 use Rattle.lists.proofs.Every.{all_get, pairs_each}
 use Rattle.lists.proofs.Maps.{map_same}

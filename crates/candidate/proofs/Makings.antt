@@ -8,7 +8,7 @@ use mathlib.Core.Option.{Option, none, some, get_or}
 use lib.Dec.{eqb}
 use borrow.Author.Tests.{eq-eqb, ne_eqb}
 use Rattle.lists.specs.Base.{◌>>=◌, retain, fold_option}
-use Rattle.lists.proofs.Perm.{All}
+use Rattle.lists.specs.Elements.{All}
 use Rattle.lists.proofs.Sums.{map_append}
 use Rattle.lists.proofs.Options.{fold_append}
 use Rattle.lists.proofs.Kept.{retain_append}

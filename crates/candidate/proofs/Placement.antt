@@ -10,7 +10,8 @@ use lib.ListN.{length, get_or, set, take, drop, length-append, length-drop, get_
 use lib.Seq.{take-take, get_or-take, get_or-drop, take-append-add, drop-append-add}
 use borrow.Author.Tests.{ltb-true, ltb-false, eqb-true, eqb-false}
 use Rattle.lists.specs.Base.{range, remove_at}
-use Rattle.lists.proofs.Perm.{Perm, perm_sym, perm_append_left, perm_middle, also, All, Pairs, all_map, all_both, all_append, all_left, all_right, all_self}
+use Rattle.lists.specs.Elements.{Perm, also, All, Pairs}
+use Rattle.lists.proofs.Perm.{perm_sym, perm_append_left, perm_middle, all_map, all_both, all_append, all_left, all_right, all_self}
 use Rattle.lists.proofs.Sums.{length-map, map_append}
 use Rattle.lists.proofs.Every.{all_get, get_mem, pairs_left}
 use Rattle.lists.proofs.Maps.{map_remove_at}
@@ -19,8 +20,7 @@ use Rattle.model.specs.declared.CutInstance.{CutInstance}
 use Rattle.model.specs.Sheet.{GuillotineSheet, Insertion, new_sheet, try_insert, rebuild}
 use Rattle.model.specs.Candidate.{Candidate, Taken, insert_in_bins, take_first_fitting_stock, in_bins, on_new_board, unplaced, first_end, place_cut_first_fit}
 use Rattle.model.specs.Expand.{ProblemInstance}
-use Rattle.trust.proofs.Winner.{Admitted}
-use Rattle.trust.proofs.Ranges.{Ranged}
+use Rattle.trust.specs.Admitted.{Admitted, Ranged}
 use Rattle.trust.proofs.Proper.{place_proper}
 use Rattle.words.specs.Inserted.{with_word_at}
 use Rattle.candidate.specs.declared.Candidate.{Candidate as Words}

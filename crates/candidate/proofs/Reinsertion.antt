@@ -2,12 +2,12 @@
 use native.Mathlib.Omega.{arith}
 use mathlib.Core.Path.{◌≡◌, refl, subst}
 use mathlib.Core.List.{List, [], ◌++◌, map, append-nil}
-use Rattle.lists.proofs.Perm.{Perm}
 use Rattle.model.specs.declared.BaselineGuillotineHeuristic.{BaselineGuillotineHeuristic}
 use Rattle.model.specs.declared.CutInstance.{CutInstance}
 use Rattle.model.specs.Candidate.{place_cuts, reinsert_unused_first_fit}
 use Rattle.model.specs.Expand.{ProblemInstance}
-use Rattle.trust.proofs.Candidate.{placed_cuts}
+use Rattle.lists.specs.Elements.{Perm}
+use Rattle.trust.specs.Proper.{placed_cuts}
 use Rattle.candidate.specs.declared.Candidate.{Candidate as Words}
 use Rattle.candidate.specs.Moves.{without_unused}
 use Rattle.candidate.specs.Stands.{Stands, unused_numbers, candidate_in}

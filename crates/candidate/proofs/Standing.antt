@@ -8,7 +8,8 @@ use mathlib.Core.Option.{some}
 use lib.ListN.{length, take, take-append-drop}
 use lib.Seq.{take-take, length-take-le}
 use Rattle.lists.specs.Base.{range}
-use Rattle.lists.proofs.Perm.{perm_sym, perm_append_left, perm_middle, also, All, Pairs, all_map, all_append, all_left, all_right, all_perm, pairs_perm, mem_perm, in_all}
+use Rattle.lists.specs.Elements.{also, All, Pairs}
+use Rattle.lists.proofs.Perm.{perm_sym, perm_append_left, perm_middle, all_map, all_append, all_left, all_right, all_perm, pairs_perm, mem_perm, in_all}
 use Rattle.lists.proofs.Sums.{map_append}
 use Rattle.lists.proofs.Kept.{retain_all}
 use Rattle.lists.proofs.Counts.{range_below}
@@ -19,9 +20,9 @@ use Rattle.model.specs.Types.{cut_key}
 use Rattle.model.specs.Sheet.{GuillotineSheet, new_sheet, rebuild}
 use Rattle.model.specs.Candidate.{Candidate, remove_unused_cut}
 use Rattle.model.specs.Expand.{ProblemInstance}
-use Rattle.trust.proofs.Candidate.{placed_cuts, Differ, differ_sym}
-use Rattle.trust.proofs.Winner.{Admitted}
-use Rattle.trust.proofs.Ranges.{Ranged}
+use Rattle.trust.specs.Proper.{placed_cuts}
+use Rattle.trust.specs.Admitted.{Admitted, Differ, Ranged}
+use Rattle.trust.proofs.Candidate.{differ_sym}
 use Rattle.candidate.specs.declared.Candidate.{Candidate as Words}
 use Rattle.candidate.specs.Entries.{board_of, on_board}
 use Rattle.candidate.specs.Stands.{Stands, making_in, bin_in, sheet_boards, available_boards, placed_words, unused_numbers, candidate_in}

@@ -5,14 +5,14 @@ use mathlib.Core.Path.{◌≡◌, ap, ◌∙◌, subst}
 use mathlib.Core.List.{List, [], map}
 use lib.ListN.{length, take}
 use Rattle.lists.specs.Base.{range}
-use Rattle.lists.proofs.Perm.{Perm, perm_refl, map_perm, length_perm}
+use Rattle.lists.specs.Elements.{Perm}
+use Rattle.lists.proofs.Perm.{perm_refl, map_perm, length_perm}
 use Rattle.lists.proofs.Sums.{length_count_from}
 use Rattle.lists.proofs.Counts.{take_count, map_get}
 use Rattle.model.specs.declared.CutInstance.{CutInstance}
 use Rattle.model.specs.Candidate.{new_candidate}
 use Rattle.model.specs.Expand.{ProblemInstance}
-use Rattle.trust.proofs.Winner.{Admitted}
-use Rattle.trust.proofs.Ranges.{Ranged}
+use Rattle.trust.specs.Admitted.{Admitted, Ranged}
 use Rattle.trust.proofs.Proper.{start_proper}
 use Rattle.candidate.specs.Moves.{new_words}
 use Rattle.candidate.specs.Stands.{Stands, candidate_in}

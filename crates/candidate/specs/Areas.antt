@@ -4,7 +4,7 @@ use Rattle.std.proofs.Math.Option.{Option, none, some}
 use Rattle.std.specs.Float.{binary64}
 use Rattle.std.specs.Float.Ieee.{add, mul, div}
 use Rattle.lists.specs.Base.{sum}
-use Rattle.lists.proofs.Perm.{All}
+use Rattle.lists.specs.Elements.{All}
 use Rattle.model.specs.Types.{stock_area}
 use Rattle.model.specs.Sheet.{GuillotineSheet, placed_area}
 use Rattle.model.specs.Fitness.{weight, positive_zero}

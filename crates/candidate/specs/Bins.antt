@@ -1,9 +1,9 @@
 -- The free rectangles of all boards, by the boards' numbers.
 use Rattle.std.specs.Prelude.{ℕ, ◌≡◌, List, [], get_or, set}
-use Rattle.lists.proofs.Perm.{All}
 use Rattle.model.specs.declared.Rect.{Rect}
 use Rattle.model.specs.Sheet.{GuillotineSheet}
 use Rattle.model.specs.Expand.{ProblemInstance}
+use Rattle.lists.specs.Elements.{All}
 use Rattle.candidate.specs.declared.Candidate.{Candidate as Words}
 use Rattle.candidate.specs.Stands.{bin_in, sheet_boards, placed_words}
 

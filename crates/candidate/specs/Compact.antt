@@ -2,7 +2,7 @@
 use Rattle.std.specs.Prelude.{ℕ, ◌≡◌, not, eqb, get_or, take, drop}
 use mathlib.Core.List.{List, [], ◌∷◌, ◌++◌, map, Memᴰ}
 use Rattle.lists.specs.Base.{retain, remove_at}
-use Rattle.lists.proofs.Perm.{All}
+use Rattle.lists.specs.Elements.{All}
 use Rattle.model.specs.Candidate.{compact_worst_bin}
 use Rattle.model.specs.Expand.{ProblemInstance}
 use Rattle.candidate.specs.declared.Candidate.{Candidate as Words}

@@ -2,7 +2,7 @@
 use Rattle.std.specs.Prelude.{ℕ, ◌≤◌, ◌<◌, ◌≡◌, Bool, List, map, length, get_or, take, drop, if◌then◌else◌}
 use Rattle.std.proofs.Math.Option.{none, some}
 use Rattle.lists.specs.Base.{is_some}
-use Rattle.lists.proofs.Perm.{All, Pairs}
+use Rattle.lists.specs.Elements.{All, Pairs}
 use Rattle.model.specs.declared.PatternDirection.{PatternDirection}
 use Rattle.model.specs.declared.StockInstance.{StockInstance}
 use Rattle.model.specs.declared.Rect.{Rect}

@@ -2,7 +2,7 @@
 use Rattle.std.specs.Prelude.{ℕ, ◌≤◌, ◌<◌, ◌≡◌, Bool, true, length}
 use mathlib.Core.List.{List, Memᴰ}
 use Rattle.lists.specs.Base.{is_some, all}
-use Rattle.lists.proofs.Perm.{All}
+use Rattle.lists.specs.Elements.{All}
 use Rattle.model.specs.declared.Rect.{Rect}
 use Rattle.model.specs.Sheet.{new_sheet, rebuild}
 use Rattle.model.specs.Expand.{ProblemInstance}

@@ -4,11 +4,11 @@ use mathlib.Core.List.{List, ◌++◌, map, Memᴰ}
 use Rattle.std.proofs.Math.Option
 use Rattle.std.proofs.Math.Option.{some}
 use Rattle.lists.specs.Base.{range}
-use Rattle.lists.proofs.Perm.{Perm, All}
+use Rattle.lists.specs.Elements.{Perm, All}
 use Rattle.model.specs.Sheet.{GuillotineSheet, Insertion, new_sheet, rebuild}
 use Rattle.model.specs.Candidate.{Candidate}
 use Rattle.model.specs.Expand.{ProblemInstance}
-use Rattle.trust.proofs.Proper.{UnderWay}
+use Rattle.trust.specs.Proper.{UnderWay}
 use Rattle.project.specs.Problem.{board_in, cut_in}
 use Rattle.candidate.specs.declared.Candidate.{Candidate as Words}
 use Rattle.candidate.specs.Entries.{board_of, cut_of, heuristic_of, on_board}

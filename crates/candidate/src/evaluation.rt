@@ -3,11 +3,11 @@
 ghost use Rattle.std.specs.Prelude.{◌≡◌, List, [], map, ◌<◌, ◌^◌, Bool, Float, length, sum_by};
 ghost use Rattle.std.proofs.Math.Option.{some};
 ghost use Rattle.lists.specs.Base.{sum, range};
-ghost use Rattle.lists.proofs.Perm.{All};
+ghost use Rattle.lists.specs.Elements.{All};
 ghost use Rattle.model.specs.Sheet.{GuillotineSheet};
 ghost use Rattle.model.specs.Candidate.{is_valid};
 ghost use Rattle.model.specs.Expand.{ProblemInstance};
-ghost use Rattle.trust.proofs.Winner.{Admitted};
+ghost use Rattle.trust.specs.Admitted.{Admitted};
 ghost use Rattle.candidate.specs.Scores.{score_of};
 ghost use Rattle.candidate.specs.Areas.{areas_of};
 ghost use Rattle.candidate.specs.Entries.{cut_of};

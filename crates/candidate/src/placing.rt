@@ -3,8 +3,8 @@
 
 ghost use Rattle.std.specs.Prelude.{◌≡◌, [], ◌<◌};
 ghost use lib.ListN.{length, take};
-ghost use Rattle.lists.proofs.Perm.{All};
 ghost use Rattle.model.specs.Sheet.{new_sheet};
+ghost use Rattle.lists.specs.Elements.{All};
 ghost use Rattle.candidate.specs.Entries.{board_of, cut_of};
 ghost use Rattle.candidate.specs.Stands.{Stands};
 ghost use Rattle.candidate.specs.Bins.{with_bin, Shown};

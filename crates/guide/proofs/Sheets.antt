@@ -11,10 +11,11 @@ use Rattle.model.specs.Split.{split_direction}
 use Rattle.model.specs.Merge.{merges_any}
 use Rattle.model.specs.Sheet.{GuillotineSheet, Insertion, Place, split_rects, split_tree, insert_at}
 use Rattle.trust.specs.Limits.{most_nodes}
+use Rattle.trust.specs.Sound.{Sound}
+use Rattle.trust.specs.Proper.{NodeCount}
 use Rattle.trust.proofs.Placing.{Good}
 use Rattle.trust.proofs.RectLayout.{layout_perm}
-use Rattle.trust.proofs.Sheet.{Sound, chosen_first, lies_positive}
-use Rattle.trust.proofs.Sizes.{NodeCount}
+use Rattle.trust.proofs.Sheet.{chosen_first, lies_positive}
 use Rattle.guide.specs.declared.subtree.Node.{Node}
 use Rattle.guide.specs.Nodes.{node_of, guide_nodes, InCorner}
 use Rattle.guide.specs.Guides.{split_guide, next_guide}

@@ -7,9 +7,10 @@ use mathlib.Core.List.{[], ◌++◌, ◌∷◌, List, append_assoc, append-nil, 
 use lib.ListN.{get_or, length, set, take}
 use lib.Seq.{take_all, take-suc-set}
 use Rattle.lists.specs.Base.{concat_map, count_from, enumerate, enumerate_from, range}
+use Rattle.lists.specs.Elements.{All, Pairs}
 use Rattle.lists.proofs.Every.{all_any}
 use Rattle.lists.proofs.Maps.{map-map, map_same}
-use Rattle.lists.proofs.Perm.{All, Pairs, all_map}
+use Rattle.lists.proofs.Perm.{all_map}
 use Rattle.lists.proofs.Sums.{length_count_from, length-map}
 
 pub count_snoc : (i n : ℕ) → count_from i (suc n) ≡ count_from i n ++ ((i + n) ∷ [])

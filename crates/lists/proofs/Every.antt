@@ -8,7 +8,8 @@ use mathlib.Core.List.{[], ◌++◌, ◌∷◌, List, Memᴰ, map}
 use lib.Dec.{T}
 use lib.ListN.{drop, get_or, length, take}
 use Rattle.lists.specs.Base.{any, concat_map, remove_at}
-use Rattle.lists.proofs.Perm.{All, Pairs, Perm, all_append, all_left, all_map, also, done, flip, keep}
+use Rattle.lists.specs.Elements.{Perm, done, keep, flip, also, All, Pairs}
+use Rattle.lists.proofs.Perm.{all_append, all_left, all_map}
 
 module _ {A : Type 0} where
   -- what holds of each element holds of the i-th

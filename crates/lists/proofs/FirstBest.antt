@@ -6,7 +6,8 @@ use mathlib.Core.Bool.{Bool, true, false, true≢false, false≢true}
 use mathlib.Core.List.{List, [], ◌∷◌, ◌++◌, append_assoc, append-nil}
 use mathlib.Core.Option.{some, some-injective, none-ne-some}
 use Rattle.lists.specs.Base.{is_greater, keep_best, first_best}
-use Rattle.lists.proofs.Perm.{All, all_both, all_left, all_right, all_append}
+use Rattle.lists.specs.Elements.{All}
+use Rattle.lists.proofs.Perm.{all_both, all_left, all_right, all_append}
 use Rattle.lists.proofs.Preorder.{flipped, Chained, Preorder}
 
 module _ {A : Type 0} (cmp : A → A → Ordering) where

@@ -8,8 +8,9 @@ use mathlib.Core.List.{[], ◌++◌, ◌∷◌, List, map}
 use lib.Dec.{T}
 use lib.ListN.{length}
 use Rattle.lists.specs.Base.{retain, sum}
+use Rattle.lists.specs.Elements.{Perm, done, keep, flip, also, All}
 use Rattle.lists.proofs.Booleans.{is_false}
-use Rattle.lists.proofs.Perm.{All, Perm, all_map, also, done, flip, keep, perm_middle, perm_refl}
+use Rattle.lists.proofs.Perm.{all_map, perm_middle, perm_refl}
 
 pub retain_append : {A : Type 0} (p : A → Bool) (xs ys : List A) → retain p (xs ++ ys) ≡ retain p xs ++ retain p ys
 unfolding retain

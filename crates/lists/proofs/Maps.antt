@@ -9,7 +9,7 @@ use mathlib.Core.List.{[], ◌++◌, ◌∷◌, List, append_assoc, append-nil, 
 use mathlib.Core.Option.{Option, none-ne-some, some-injective, some}
 use lib.ListN.{get_or, length, set, take}
 use Rattle.lists.specs.Base.{concat_map, first_best, foldl, keep_best, remove_at, swap}
-use Rattle.lists.proofs.Perm.{All}
+use Rattle.lists.specs.Elements.{All}
 use Rattle.lists.proofs.Sums.{length-map}
 
 pub map-map : {A B C : Type 0} (g : B → C) (f : A → B) (l : List A) → map g (map f l) ≡ map (λ x. g (f x)) l

@@ -4,7 +4,7 @@ use mathlib.Core.Bool.{false, false≢true, true, true≢false}
 use mathlib.Core.List.{[], ◌++◌, ◌∷◌, List}
 use mathlib.Core.Option.{Option, none-ne-some, some-injective, none, some}
 use Rattle.lists.specs.Base.{◌>>=◌, fold_option, is_some, to_list}
-use Rattle.lists.proofs.Perm.{All}
+use Rattle.lists.specs.Elements.{All}
 
 module _ {A B : Type 0} where
   pub record Through (o : Option A) (f : A → Option B) (b : B) : Type 0 where

@@ -10,14 +10,9 @@ use mathlib.Core.List.Memᴰ
 use mathlib.Core.List.{List, [], ◌∷◌, ◌++◌, map, append-nil, append_assoc, Memᴰ, nil≢cons, cons≢nil, head-eq_of_cons-eq, tail-eq_of_cons-eq}
 use lib.ListN.{length, get_or, set}
 use Rattle.lists.specs.Base.{is_greater, sum, concat_map, last_or, drop_last, remove_at, swap_remove, swap, insert_by, sort_by}
+use Rattle.lists.specs.Elements.{Perm, done, keep, flip, also, All, Pairs}
 
 module _ {A : Type 0} where
-  pub data Perm : List A → List A → Type 0 where
-    done : Perm [] []
-    keep : (x : A) {xs ys : List A} → Perm xs ys → Perm (x ∷ xs) (x ∷ ys)
-    flip : (x y : A) (xs : List A) → Perm (x ∷ y ∷ xs) (y ∷ x ∷ xs)
-    also : {xs ys zs : List A} → Perm xs ys → Perm ys zs → Perm xs zs
-
   pub perm_refl : (xs : List A) → Perm xs xs
   perm_refl [] = done
   perm_refl (x ∷ xs) = keep x (perm_refl xs)
@@ -49,10 +44,6 @@ module _ {A : Type 0} where
 
   -- ---- what does not depend on the order
 
-  abbrev pub All : (A → Type 0) → List A → Type 0
-  All P [] = Unit
-  All P (x ∷ xs) = P x × All P xs
-
   pub all_map : (P Q : A → Type 0) → ((x : A) → P x → Q x) → (xs : List A) → All P xs → All Q xs
   all_map P Q f [] h = tt
   all_map P Q f (x ∷ xs) h = (f x h.0, all_map P Q f xs h.1)
@@ -72,10 +63,6 @@ module _ {A : Type 0} where
   pub all_both : (P Q R : A → Type 0) → ((x : A) → P x → Q x → R x) → (xs : List A) → All P xs → All Q xs → All R xs
   all_both P Q R f [] h k = tt
   all_both P Q R f (x ∷ xs) h k = (f x h.0 k.0, all_both P Q R f xs h.1 k.1)
-
-  abbrev pub Pairs : (A → A → Type 0) → List A → Type 0
-  Pairs R [] = Unit
-  Pairs R (x ∷ xs) = All (R x) xs × Pairs R xs
 
   pub all_perm : (P : A → Type 0) {xs ys : List A} → Perm xs ys → All P xs → All P ys
   all_perm P done h = h

@@ -9,7 +9,8 @@ use mathlib.Core.List.Memᴰ
 use mathlib.Core.List.{List, [], ◌∷◌, Memᴰ, nil≢cons, cons≢nil, head-eq_of_cons-eq, tail-eq_of_cons-eq}
 use lib.Dec.{compare_is_eq}
 use Rattle.lists.specs.Base.{is_greater, sort_by, retain}
-use Rattle.lists.proofs.Perm.{Perm, All, Pairs, all_perm, perm_sym, mem_perm, in_all, sort_by_perm}
+use Rattle.lists.specs.Elements.{Perm, All, Pairs}
+use Rattle.lists.proofs.Perm.{all_perm, perm_sym, mem_perm, in_all, sort_by_perm}
 use Rattle.lists.proofs.Preorder.{flipped, Preorder}
 use Rattle.lists.proofs.SortOn.{sort_rises, sort_stable}
 

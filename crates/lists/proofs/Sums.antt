@@ -7,7 +7,7 @@ use mathlib.Core.List.{List, [], ◌∷◌, ◌++◌, map}
 use mathlib.Core.Option.{Option, none, some, some-injective, none-ne-some}
 use lib.ListN.{length, length-append}
 use Rattle.lists.specs.Base.{◌>>=◌, to_list, sum, count_from, concat_map, map_option}
-use Rattle.lists.proofs.Perm.{All}
+use Rattle.lists.specs.Elements.{All}
 
 pub length_count_from : (i n : ℕ) → length (count_from i n) ≡ n
 unfolding count_from

@@ -1,3 +1,4 @@
 pub mod Base
+pub mod Elements
 pub mod Language
 pub mod Parts

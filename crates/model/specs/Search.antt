@@ -1,4 +1,5 @@
 -- The search: seeds, the first population, generations, survival and the final choice, from `heuristic_variants` to `select_best_valid_candidate`.
+use Prim.Native.Nat.{Ordering}
 use Rattle.std.specs.Prelude.{ℕ, zero, suc, ◌+◌, Bool, true, false, not, List, [], ◌∷◌, ◌++◌, map, take}
 use Rattle.std.proofs.Math.Option.{Option, some}
 use Rattle.lists.specs.Base.{◌>>=◌, is_greater, to_list, range, retain, enumerate, find, first_best, sort_by, remove_at, concat_map}
@@ -126,11 +127,13 @@ repair_population inst h population = map (reinsert_unused_first_fit inst.kerf_w
 unfoldable pub compact_population : ProblemInstance → List Candidate → List Candidate
 compact_population inst population = map (compact_worst_bin inst.cuts) population
 
+-- the order of the survivors: the higher score first
+abbrev pub best_first : ProblemInstance → Candidate → Candidate → Ordering
+best_first inst left right = compare_optional_score (score inst.cuts right) (score inst.cuts left)
+
 -- survival_generation: the valid ones, best first, no more than the survivors
 unfoldable pub survival_generation : ProblemInstance → ℕ → List Candidate → List Candidate
-survival_generation inst survivors population =
-    take survivors
-    (sort_by (λ left right. compare_optional_score (score inst.cuts right) (score inst.cuts left)) (retain (is_valid inst.cuts) population))
+survival_generation inst survivors population = take survivors (sort_by (best_first inst) (retain (is_valid inst.cuts) population))
 
 -- one round of run_population_generations
 unfoldable pub generation : ProblemInstance → BaselineGuillotineHeuristic → ℕ → List Candidate → List Candidate

@@ -3,11 +3,11 @@ use Prim.Native.Nat.{ℕ, suc, ◌<◌}
 use mathlib.Core.Path.{◌≡◌, sym, subst}
 use mathlib.Core.List.{List, [], ◌∷◌}
 use lib.ListN.{get_or}
-use Rattle.lists.proofs.Perm.{All}
 use Rattle.model.specs.declared.StockInstance.{StockInstance}
 use Rattle.model.specs.declared.CutInstance.{CutInstance}
 use Rattle.model.specs.Project.{project_of}
 use Rattle.model.specs.Expand.{ProblemInstance, expand_project}
+use Rattle.lists.specs.Elements.{All}
 use Rattle.trust.proofs.Checks.{admitted}
 use Rattle.trust.proofs.Ranges.{Byte, ranged}
 use Rattle.project.specs.Problem.{Sound}

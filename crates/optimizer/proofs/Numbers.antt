@@ -7,7 +7,8 @@ use mathlib.Core.List.{List, [], ◌∷◌, ◌++◌}
 use mathlib.Core.Option.{Option, none, some, some-injective, none-ne-some}
 use lib.Dec.{T, ltb}
 use Rattle.lists.specs.Base.{◌<|>◌, is_empty}
-use Rattle.lists.proofs.Perm.{All, all_append}
+use Rattle.lists.specs.Elements.{All}
+use Rattle.lists.proofs.Perm.{all_append}
 use Rattle.model.specs.declared.LayoutKind.{LayoutKind}
 use Rattle.model.specs.Types.{layout_of, effort_of}
 use Rattle.model.specs.Fitness.{one}

@@ -6,7 +6,7 @@ use mathlib.Core.List.{List, [], ◌∷◌, ◌++◌, map}
 use lib.ListN.{length, get_or, take}
 use lib.Seq.{get_or-take}
 use lib.Ieee.{Float}
-use Rattle.lists.proofs.Perm.{All, perm_sym, all_left, all_perm, all_map}
+use Rattle.lists.proofs.Perm.{perm_sym, all_left, all_perm, all_map}
 use Rattle.lists.proofs.Sums.{length-map}
 use Rattle.lists.proofs.Every.{all_get}
 use Rattle.lists.proofs.Counts.{range_below}
@@ -14,10 +14,11 @@ use Rattle.model.specs.declared.LayoutKind.{LayoutKind}
 use Rattle.model.specs.Sheet.{GuillotineSheet, placed_area}
 use Rattle.model.specs.Expand.{ProblemInstance}
 use Rattle.model.specs.Plan.{plan_words}
-use Rattle.trust.proofs.Ranges.{Ranged}
+use Rattle.lists.specs.Elements.{All}
+use Rattle.trust.specs.Admitted.{Ranged}
+use Rattle.trust.specs.Proper.{SheetProper}
 use Rattle.trust.proofs.Bounded.{placed_most}
 use Rattle.trust.proofs.CandidateSize.{candidate_counts}
-use Rattle.trust.proofs.Proper.{SheetProper}
 use Rattle.trust.proofs.PlanSize.{counted, plan_most}
 use Rattle.candidate.specs.Areas.{areas_of, board_areas, WithinBoards}
 use Rattle.candidate.proofs.fitness.Sheets.{board_area, inside_areas, used_stock_area_areas}

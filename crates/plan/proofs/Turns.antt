@@ -19,7 +19,7 @@ use Rattle.model.specs.Sheet.{GuillotineSheet}
 use Rattle.model.specs.Fitness.{fitness, positive_zero, one}
 use Rattle.model.specs.Expand.{ProblemInstance}
 use Rattle.model.specs.Plan.{sheet_words}
-use Rattle.trust.proofs.Ranges.{Ranged}
+use Rattle.trust.specs.Admitted.{Ranged}
 use Rattle.trust.proofs.PlanSize.{body_words, plan_length}
 use Rattle.candidate.specs.declared.fitness.SheetAreas.{SheetAreas}
 use Rattle.candidate.specs.Areas.{board_areas, fitness_of, WithinBoards}

@@ -3,7 +3,7 @@ use Rattle.std.specs.Prelude.{ℕ, ◌+◌, ◌*◌, ◌^◌, ◌≤◌, ◌<◌
 use Rattle.std.proofs.Math.Option.{some}
 use Rattle.lists.specs.Base.{concat_map}
 use Rattle.lists.specs.Parts.{patch}
-use Rattle.lists.proofs.Perm.{All}
+use Rattle.lists.specs.Elements.{All}
 use Rattle.model.specs.declared.Rect.{Rect}
 use Rattle.model.specs.declared.StockInstance.{StockInstance}
 use Rattle.model.specs.declared.CutInstance.{CutInstance}
@@ -16,8 +16,8 @@ use Rattle.model.specs.Sheet.{GuillotineSheet, rebuild, placed_area}
 use Rattle.model.specs.Expand.{ProblemInstance}
 use Rattle.model.specs.Plan.{piece_words, sheet_words}
 use Rattle.trust.specs.Limits.{most_nodes}
-use Rattle.trust.proofs.Ranges.{BoardRange}
-use Rattle.trust.proofs.Bounded.{Bounded}
+use Rattle.trust.specs.Admitted.{BoardRange}
+use Rattle.trust.specs.Proper.{Bounded}
 use Rattle.sheet.specs.Places.{Shows}
 use Rattle.sheet.specs.declared.Inserted.{Inserted}
 use Rattle.sheet.specs.Insertions.{Ready}

@@ -4,8 +4,7 @@ use Rattle.model.specs.declared.PatternDirection.{PatternDirection}
 use Rattle.model.specs.declared.StockInstance.{StockInstance}
 use Rattle.model.specs.declared.CutInstance.{CutInstance}
 use Rattle.model.specs.Expand.{ProblemInstance}
-use Rattle.trust.proofs.Winner.{Admitted}
-use Rattle.trust.proofs.Ranges.{Ranged}
+use Rattle.trust.specs.Admitted.{Admitted, Ranged}
 
 -- sizes and numbers in range, at most 64 boards and 64 cuts, each with a key of its own
 pub record Sound (inst : ProblemInstance) : Type 0 where

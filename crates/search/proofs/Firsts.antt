@@ -8,7 +8,8 @@ use mathlib.Core.Option.{Option, some}
 use lib.ListN.{length, get_or, take}
 use lib.Seq.{take-suc, take_all}
 use Rattle.lists.specs.Base.{◌>>=◌, to_list, range, concat_map, sort_by}
-use Rattle.lists.proofs.Perm.{Perm, perm_sym, All, all_perm, sort_by_perm}
+use Rattle.lists.specs.Elements.{Perm, All}
+use Rattle.lists.proofs.Perm.{perm_sym, all_perm, sort_by_perm}
 use Rattle.lists.proofs.Sums.{length-map}
 use Rattle.lists.proofs.Counts.{range_below}
 use Rattle.lists.proofs.Every.{get_mem, map_all}
@@ -20,9 +21,8 @@ use Rattle.model.specs.Types.{cut_key}
 use Rattle.model.specs.Candidate.{Candidate, new_candidate, cuts_for_keys, place_cuts}
 use Rattle.model.specs.Expand.{ProblemInstance, compare_cut}
 use Rattle.model.specs.Search.{SearchNumbers, Seed, initial_seeds, candidate_from_seed, initial_population}
+use Rattle.trust.specs.Admitted.{Admitted, Ranged}
 use Rattle.trust.proofs.Keys.{cuts_for_keys_known}
-use Rattle.trust.proofs.Winner.{Admitted}
-use Rattle.trust.proofs.Ranges.{Ranged}
 use Rattle.project.specs.declared.orders.Head.{Head}
 use Rattle.project.specs.Order.{head_of_cut, compare_at, sorted_order, IsOrder}
 use Rattle.candidate.specs.declared.Candidate.{Candidate as Words}

@@ -1,7 +1,7 @@
 -- A population in the workspace: the definition's candidates in slots that follow one another.
 use Rattle.std.specs.Prelude.{ℕ, ◌*◌, ◌≤◌, ◌≡◌, List, [], map, length, get_or, take, drop}
 use Rattle.lists.specs.Base.{count_from}
-use Rattle.lists.proofs.Perm.{All}
+use Rattle.lists.specs.Elements.{All}
 use Rattle.model.specs.Candidate.{Candidate}
 use Rattle.model.specs.Expand.{ProblemInstance}
 use Rattle.candidate.specs.declared.Candidate.{Candidate as Words}

@@ -1,7 +1,7 @@
 -- A seed whose cut order is places in the catalogue, as the definition's seed of keys.
 use Rattle.std.specs.Prelude.{◌≡◌, ℕ, List, [], map, length, slice_index_or}
 use Rattle.lists.specs.Base.{range, sort_by}
-use Rattle.lists.proofs.Perm.{Perm}
+use Rattle.lists.specs.Elements.{Perm}
 use Rattle.model.specs.declared.BaselineGuillotineHeuristic.{BaselineGuillotineHeuristic}
 use Rattle.search.specs.declared.seeds.CandidateSeed.{CandidateSeed}
 use Rattle.model.specs.Types.{cut_key}

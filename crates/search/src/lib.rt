@@ -5,7 +5,7 @@
 
 ghost use Rattle.std.specs.Prelude.{◌≡◌, IfSome, [], map, ◌+◌, ◌-◌, ◌*◌, ◌≤◌, ◌<◌, length};
 ghost use Rattle.lists.specs.Base.{range};
-ghost use Rattle.lists.proofs.Perm.{Perm};
+ghost use Rattle.lists.specs.Elements.{Perm};
 ghost use Rattle.model.specs.Search.{crossover_population, generation, winner, initial_population};
 ghost use Rattle.project.specs.Problem.{Sound};
 ghost use Rattle.candidate.specs.Stands.{Stands};

@@ -5,9 +5,9 @@ use Rattle.model.specs.declared.Rect.{Rect}
 use Rattle.model.specs.Refusal.{most_side}
 use Rattle.model.specs.Merge.{Pair, merge_adjacent_rects, first_pair}
 use Rattle.lists.specs.Base.{is_some, any}
+use Rattle.lists.specs.Elements.{All}
 use Rattle.sheet.specs.declared.merging.FoundPair.{FoundPair}
 use Rattle.sheet.specs.Bounds.{Small}
-use Rattle.lists.proofs.Perm.{All}
 
 abbrev pub pair_of : Option FoundPair → Defined.Option Pair
 pair_of None = Defined.none

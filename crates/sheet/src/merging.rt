@@ -1,10 +1,10 @@
 // The merging of a sheet's free rectangles: `merge_free_rects`.
 
 ghost use Rattle.std.specs.Prelude.{◌≡◌, ◌≤◌};
-ghost use Rattle.lists.proofs.Perm.{All};
 ghost use Rattle.model.specs.Refusal.{most_side};
 ghost use Rattle.sheet.specs.Bounds.{Small};
 ghost use Rattle.model.specs.Merge.{first_pair, merge_free_rects, merges_any};
+ghost use Rattle.lists.specs.Elements.{All};
 ghost use Rattle.sheet.specs.Merging.{pair_of, Scannable, touches};
 
 use super::adjacent;

@@ -12,12 +12,13 @@ use Rattle.model.specs.Types.{area, stock_area}
 use Rattle.model.specs.Merge.{merge_free_rects}
 use Rattle.model.specs.Sheet.{GuillotineSheet, PlacedPiece, Insertion, Place, new_sheet, split_rects, insert_at, try_insert, rebuild}
 use Rattle.model.specs.Account.{merge_gain, place_loss, place_gain, account_from}
+use Rattle.trust.specs.Sound.{piece_rects, sheet_rects}
 use Rattle.lists.proofs.Perm.{sum_perm}
 use Rattle.lists.proofs.Sums.{map_append}
 use Rattle.lists.proofs.Options.{through}
 use Rattle.trust.proofs.Area.{areas, areas_append, merge_rounds_area, split_area}
 use Rattle.trust.proofs.Placing.{Good, best_place_good, at_best}
-use Rattle.trust.proofs.Sheet.{piece_rects, sheet_rects, direction, left, new, chosen_first, in_order}
+use Rattle.trust.proofs.Sheet.{direction, left, new, chosen_first, in_order}
 
 module _ (kerf : ℕ) (s : GuillotineSheet) (i : Insertion) (p : Place) where
   abbrev pieces : List Rect

@@ -19,8 +19,9 @@ use Rattle.model.specs.Expand.{ProblemInstance, expand_project}
 use Rattle.model.specs.Search.{SearchNumbers, search_numbers, winner}
 use Rattle.model.specs.Plan.{plan_words}
 use Rattle.model.specs.Answer.{Answer, plan, refused, answer_with, prefilter, solution, searched, optimized, makings}
+use Rattle.trust.specs.Proper.{SheetOk}
 use Rattle.trust.proofs.Search.{Won}
-use Rattle.trust.proofs.Winner.{SheetOk, winner_ok}
+use Rattle.trust.proofs.Winner.{winner_ok}
 use Rattle.trust.proofs.Checks.{admitted}
 
 abbrev pub instance_of : List ℕ → ProblemInstance

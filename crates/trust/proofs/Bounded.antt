@@ -6,6 +6,7 @@ use mathlib.Core.Path.{◌≡◌, refl, ap}
 use mathlib.Core.List.{List, [], ◌∷◌, map}
 use mathlib.Core.Option.{some}
 use Rattle.lists.specs.Base.{sum}
+use Rattle.lists.specs.Elements.{All}
 use Rattle.model.specs.declared.Rect.{Rect}
 use Rattle.model.specs.declared.StockInstance.{StockInstance}
 use Rattle.model.specs.declared.CutInstance.{CutInstance}
@@ -13,26 +14,20 @@ use Rattle.model.specs.Types.{area, stock_rect, stock_area, cut_area}
 use Rattle.model.specs.Refusal.{most_side}
 use Rattle.model.specs.Sheet.{GuillotineSheet, PlacedPiece, Insertion, Place, new_sheet, insert_at, try_insert, placed_area}
 use Rattle.model.specs.Plan.{preorder, nodes_of}
-use Rattle.lists.proofs.Perm.{All, all_map, all_append, all_left, all_right, all_perm}
+use Rattle.lists.proofs.Perm.{all_map, all_append, all_left, all_right, all_perm}
 use Rattle.lists.proofs.Sums.{sum_append}
 use Rattle.trust.specs.Limits.{most_edge, most_area}
-use Rattle.trust.proofs.Geometry.{Within}
+use Rattle.trust.specs.Proper.{Bounded, FreeCount, NodeCount}
+use Rattle.trust.specs.Sound.{Sound, Within, piece_rects, sheet_rects}
+use Rattle.trust.specs.Admitted.{BoardRange, PanelRange}
+use Rattle.trust.specs.WellCut.{GuideIn}
 use Rattle.trust.proofs.Placing.{Good, at_place}
-use Rattle.trust.proofs.Sheet.{piece_rects, sheet_rects, Sound, new_sound, insert_sound, lies_positive, chosen_first}
+use Rattle.trust.proofs.Sheet.{new_sound, insert_sound, lies_positive, chosen_first}
 use Rattle.trust.proofs.Packing.{packed_area}
-use Rattle.trust.proofs.Sizes.{FreeCount, insert_free, NodeCount, insert_nodes}
-use Rattle.trust.proofs.Ranges.{BoardRange, PanelRange}
-use Rattle.trust.proofs.GuideRange.{GuideIn, insert_guide_in}
+use Rattle.trust.proofs.Sizes.{insert_free, insert_nodes}
+use Rattle.trust.proofs.GuideRange.{insert_guide_in}
 
 -- ---- what every insertion keeps
-
-pub record Bounded (kerf : ℕ) (s : GuillotineSheet) : Type 0 where
-  pub layout : Sound kerf s
-  pub board : BoardRange s.stock
-  pub panels : All (λ p. PanelRange p.by.cut) s.placed_pieces
-  pub free : FreeCount s
-  pub nodes : NodeCount s
-  pub guide : GuideIn kerf s
 
 pub new_bounded : (kerf : ℕ) (stock : StockInstance) → BoardRange stock → Bounded kerf (new_sheet stock)
 unfolding new_sheet nodes_of preorder

@@ -6,6 +6,7 @@ use mathlib.Core.List.{List, [], ◌∷◌, ◌++◌, map, append_assoc, append-
 use mathlib.Core.Option.{Option, none, some, some-injective, none-ne-some}
 use lib.Dec.{T, T_not, not_T, eqb, eqb→eq, eqb_refl}
 use Rattle.lists.specs.Base.{◌>>=◌, ◌<|>◌, foldl, concat_map}
+use Rattle.lists.specs.Elements.{Perm, keep, flip, also, All, Pairs}
 use Rattle.model.specs.declared.BaselineGuillotineHeuristic.{BaselineGuillotineHeuristic}
 use Rattle.model.specs.declared.StockInstance.{StockInstance}
 use Rattle.model.specs.declared.CutInstance.{CutInstance}
@@ -13,22 +14,14 @@ use Rattle.model.specs.declared.InstanceKey.{InstanceKey}
 use Rattle.model.specs.Types.{cut_key, same_key}
 use Rattle.model.specs.Sheet.{GuillotineSheet, Insertion, new_sheet, try_insert, making_of}
 use Rattle.model.specs.Candidate.{Candidate, Taken, insert_in_bins, take_first_fitting_stock, remove_unused_cut, in_bins, on_new_board, unplaced, first_end, place_cut_first_fit, place_cuts, reinsert_unused_first_fit}
-use Rattle.lists.proofs.Perm.{Perm, keep, flip, also, perm_refl, perm_sym, perm_append_left, perm_append_right, perm_middle, All, Pairs, all_map, all_append, all_left, all_right, all_perm, pairs_perm, mem_perm}
+use Rattle.trust.specs.Admitted.{Differ, Distinct}
+use Rattle.trust.specs.Proper.{Kept, boards_of, cuts_of, placed_cuts}
+use Rattle.lists.proofs.Perm.{perm_refl, perm_sym, perm_append_left, perm_append_right, perm_middle, all_map, all_append, all_left, all_right, all_perm, pairs_perm, mem_perm}
 use Rattle.lists.proofs.Sums.{map_append}
 use Rattle.lists.proofs.Kept.{retain_all}
 use Rattle.lists.proofs.Maps.{concat_map_append}
 use Rattle.trust.proofs.Truth.{and_intro, and_split}
 use Rattle.trust.proofs.Sheet.{try_insert_inserted}
-
--- the cuts on a sheet, and on all of them
-unfoldable pub cuts_of : GuillotineSheet → List CutInstance
-cuts_of s = map (λ i. i.cut) (making_of s)
-
-abbrev pub placed_cuts : List GuillotineSheet → List CutInstance
-placed_cuts bins = concat_map cuts_of bins
-
-abbrev pub boards_of : List GuillotineSheet → List StockInstance
-boards_of bins = map (λ b. b.stock) bins
 
 pub inserted_cuts : (kerf : ℕ) (s : GuillotineSheet) (i : Insertion) (t : GuillotineSheet) → try_insert kerf s i ≡ some t → cuts_of t ≡ cuts_of s ++ (i.cut ∷ [])
 unfolding cuts_of
@@ -107,13 +100,6 @@ module _ (P : GuillotineSheet → Type 0) (kerf : ℕ) (i : Insertion)
 
 -- ---- lists of cuts with keys of their own
 
-abbrev pub Differ : CutInstance → CutInstance → Type 0
-Differ a b = T (not (same_key (cut_key a) (cut_key b)))
-
--- the keys are those of different instances
-abbrev pub Distinct : List CutInstance → Type 0
-Distinct cuts = Pairs Differ cuts
-
 new_cuts : (bins : List GuillotineSheet) (t : Taken) {cut : CutInstance} → cuts_of t.bin ≡ cut ∷ [] → placed_cuts (bins ++ (t.bin ∷ [])) ≡ placed_cuts bins ++ (cut ∷ [])
 unfolding concat_map
 new_cuts bins t e = concat_map_append cuts_of bins (t.bin ∷ []) ∙ ap (λ (r : List CutInstance). placed_cuts bins ++ r) (append-nil (cuts_of t.bin) ∙ e)
@@ -138,30 +124,25 @@ differ_sym a b h =
 -- ---- a candidate under way: every board once, and every panel once, on a sheet, unused, or still to come
 
 module _ (P : GuillotineSheet → Type 0) (kerf : ℕ) (stock : List StockInstance) (cuts : List CutInstance) where
-  pub record Kept (later : List CutInstance) (c : Candidate) : Type 0 where
-    pub boards : Perm (boards_of c.bins ++ c.available_stock) stock
-    pub panels : Perm (placed_cuts c.bins ++ (c.unused_cuts ++ later)) cuts
-    pub sheets : All P c.bins
-
   module _ (fresh : All (λ s. P (new_sheet s)) stock) (distinct : Distinct cuts)
       (keeps : (i : Insertion) (s t : GuillotineSheet) → Memᴰ i.cut cuts → try_insert kerf s i ≡ some t → P s → P t) where
     -- the cut under way comes first
-    first : (c : Candidate) (cut : CutInstance) (later : List CutInstance) → Kept (cut ∷ later) c
+    first : (c : Candidate) (cut : CutInstance) (later : List CutInstance) → Kept P stock cuts (cut ∷ later) c
         → Perm (cut ∷ (placed_cuts c.bins ++ (c.unused_cuts ++ later))) cuts
     first c cut later h =
         also (perm_sym (also (perm_append_left (placed_cuts c.bins) (perm_middle c.unused_cuts cut later)) (perm_middle (placed_cuts c.bins) cut (c.unused_cuts ++ later))))
         h.panels
 
     -- none of the unused cuts has its key
-    unused_kept : (c : Candidate) (cut : CutInstance) (later : List CutInstance) → Kept (cut ∷ later) c → remove_unused_cut (cut_key cut) c.unused_cuts ≡ c.unused_cuts
+    unused_kept : (c : Candidate) (cut : CutInstance) (later : List CutInstance) → Kept P stock cuts (cut ∷ later) c → remove_unused_cut (cut_key cut) c.unused_cuts ≡ c.unused_cuts
     unfolding remove_unused_cut
     unused_kept c cut later h =
         let d : Distinct (cut ∷ (placed_cuts c.bins ++ (c.unused_cuts ++ later))) = pairs_perm Differ differ_sym (perm_sym (first c cut later h)) distinct in
         let u : All (Differ cut) c.unused_cuts = all_left _ c.unused_cuts later (all_right _ (placed_cuts c.bins) (c.unused_cuts ++ later) d.0) in
         retain_all _ c.unused_cuts (all_map (Differ cut) _ (λ x k. differ_sym cut x k) c.unused_cuts u)
 
-    pub place_kept : (h : BaselineGuillotineHeuristic) (c : Candidate) (cut : CutInstance) (later : List CutInstance) → Kept (cut ∷ later) c
-        → Kept later (place_cut_first_fit kerf h c cut)
+    pub place_kept : (h : BaselineGuillotineHeuristic) (c : Candidate) (cut : CutInstance) (later : List CutInstance) → Kept P stock cuts (cut ∷ later) c
+        → Kept P stock cuts later (place_cut_first_fit kerf h c cut)
     unfolding place_cut_first_fit first_end
     place_kept h c cut later k = ends (insert_in_bins kerf i c.bins) refl (take_first_fitting_stock kerf i c.available_stock) refl
       where
@@ -174,7 +155,7 @@ module _ (P : GuillotineSheet → Type 0) (kerf : ℕ) (stock : List StockInstan
         keep_i : (s t : GuillotineSheet) → try_insert kerf s i ≡ some t → P s → P t
         keep_i s t = keeps i s t known
 
-        into : (bins : List GuillotineSheet) → insert_in_bins kerf i c.bins ≡ some bins → Kept later (in_bins c cut bins)
+        into : (bins : List GuillotineSheet) → insert_in_bins kerf i c.bins ≡ some bins → Kept P stock cuts later (in_bins c cut bins)
         into bins e =
             let p = insert_in_bins_placed P kerf i keep_i c.bins bins e in
             record {
@@ -183,7 +164,7 @@ module _ (P : GuillotineSheet → Type 0) (kerf : ℕ) (stock : List StockInstan
               sheets = p.sheets k.sheets;
             }
 
-        onto : (t : Taken) → take_first_fitting_stock kerf i c.available_stock ≡ some t → Kept later (on_new_board c cut t)
+        onto : (t : Taken) → take_first_fitting_stock kerf i c.available_stock ≡ some t → Kept P stock cuts later (on_new_board c cut t)
         onto t e =
             let free : All (λ s. P (new_sheet s)) c.available_stock = all_right _ (boards_of c.bins) c.available_stock (all_perm _ (perm_sym k.boards) fresh) in
             let o = take_first_opened P kerf i keep_i c.available_stock free t e in
@@ -197,21 +178,21 @@ module _ (P : GuillotineSheet → Type 0) (kerf : ℕ) (stock : List StockInstan
               sheets = all_append P c.bins (t.bin ∷ []) k.sheets (o.sheet, tt);
             }
 
-        off : Kept later (unplaced c cut)
+        off : Kept P stock cuts later (unplaced c cut)
         off = record { boards = k.boards; panels = rw (append_assoc c.unused_cuts (cut ∷ []) later) k.panels; sheets = k.sheets }
 
         ends : (o : Option (List GuillotineSheet)) → insert_in_bins kerf i c.bins ≡ o → (q : Option Taken) → take_first_fitting_stock kerf i c.available_stock ≡ q
-            → Kept later (first_end c cut o q)
+            → Kept P stock cuts later (first_end c cut o q)
         ends (some bins) e q f = into bins e
         ends none e (some t) f = onto t f
         ends none e none f = off
 
-    pub places_kept : (h : BaselineGuillotineHeuristic) (c : Candidate) (later : List CutInstance) → Kept later c → Kept [] (place_cuts kerf h c later)
+    pub places_kept : (h : BaselineGuillotineHeuristic) (c : Candidate) (later : List CutInstance) → Kept P stock cuts later c → Kept P stock cuts [] (place_cuts kerf h c later)
     unfolding place_cuts foldl
     places_kept h c [] k = k
     places_kept h c (cut ∷ later) k = places_kept h (place_cut_first_fit kerf h c cut) later (place_kept h c cut later k)
 
-    pub reinsert_kept : (h : BaselineGuillotineHeuristic) (c : Candidate) → Kept [] c → Kept [] (reinsert_unused_first_fit kerf h c)
+    pub reinsert_kept : (h : BaselineGuillotineHeuristic) (c : Candidate) → Kept P stock cuts [] c → Kept P stock cuts [] (reinsert_unused_first_fit kerf h c)
     unfolding reinsert_unused_first_fit
     reinsert_kept h c k =
         places_kept h _ c.unused_cuts (record { boards = k.boards; panels = subst (λ u. Perm (placed_cuts c.bins ++ u) cuts) (append-nil c.unused_cuts) k.panels; sheets = k.sheets })

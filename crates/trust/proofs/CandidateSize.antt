@@ -7,6 +7,7 @@ use mathlib.Core.Path.{◌≡◌, refl, ap}
 use mathlib.Core.List.{List, [], ◌∷◌, ◌++◌, map}
 use lib.ListN.{length, length-append}
 use Rattle.lists.specs.Base.{sum, concat_map}
+use Rattle.lists.specs.Elements.{All}
 use Rattle.model.specs.declared.StockInstance.{StockInstance}
 use Rattle.model.specs.declared.CutInstance.{CutInstance}
 use Rattle.model.specs.Types.{stock_area, cut_area}
@@ -16,14 +17,13 @@ use Rattle.model.specs.Fitness.{used_stock_area}
 use Rattle.model.specs.Candidate.{Candidate}
 use Rattle.model.specs.Expand.{ProblemInstance}
 use Rattle.model.specs.Plan.{nodes_of}
-use Rattle.lists.proofs.Perm.{All, all_map, all_both, length_perm, sum_perm}
+use Rattle.lists.proofs.Perm.{all_map, all_both, length_perm, sum_perm}
 use Rattle.lists.proofs.Sums.{length-map, sum_append, sum_most}
 use Rattle.trust.specs.Limits.{most_area, most_areas, most_pieces, most_waste, most_nodes, most_free}
-use Rattle.trust.proofs.Candidate.{cuts_of, placed_cuts, boards_of, Kept}
-use Rattle.trust.proofs.Ranges.{BoardRange, PanelRange, Ranged}
+use Rattle.trust.specs.Proper.{Filled, Kept, SheetProper, UnderWay, boards_of, cuts_of, placed_cuts}
+use Rattle.trust.specs.Admitted.{BoardRange, PanelRange, Ranged}
 use Rattle.trust.proofs.Bounded.{board_area_most, panel_area_most}
-use Rattle.trust.proofs.Filled.{Filled, cuts_count}
-use Rattle.trust.proofs.Proper.{SheetProper, UnderWay}
+use Rattle.trust.proofs.Filled.{cuts_count}
 
 -- ---- pieces
 
@@ -80,7 +80,7 @@ used_area (b ∷ bins) = ap (λ (n : ℕ). stock_area b.stock + n) (used_area bi
 
 -- ---- a candidate that keeps every board and every panel
 
-module _ (P : GuillotineSheet → Type 0) (kerf : ℕ) (stock : List StockInstance) (cuts later : List CutInstance) (c : Candidate) (k : Kept P kerf stock cuts later c) where
+module _ (P : GuillotineSheet → Type 0) (kerf : ℕ) (stock : List StockInstance) (cuts later : List CutInstance) (c : Candidate) (k : Kept P stock cuts later c) where
   pub pieces_kept : piece_count c.bins + length c.unused_cuts + length later ≡ length cuts
   pieces_kept =
       omega (

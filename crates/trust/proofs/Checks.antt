@@ -10,6 +10,7 @@ use mathlib.Core.Option.{Option, none, some, some-ne-none}
 use lib.Dec.{T, eqb}
 use borrow.Author.Tests.{eqb-false, ne_eqb}
 use Rattle.lists.specs.Base.{◌<|>◌, any, range, concat_map}
+use Rattle.lists.specs.Elements.{All, Pairs}
 use Rattle.model.specs.declared.StockInstance.{StockInstance}
 use Rattle.model.specs.declared.CutInstance.{CutInstance}
 use Rattle.model.specs.declared.InstanceKey.{InstanceKey}
@@ -17,13 +18,12 @@ use Rattle.model.specs.Types.{stock_key, cut_key, same_key}
 use Rattle.model.specs.Project.{Record, Project, project_of, well_formed}
 use Rattle.model.specs.Refusal.{Check, first_that_applies, RecordRule, stock_rule, cut_rule, record_checks, settings_checks, whole_checks, project_checks, file_checks, file_refusal, zero_side}
 use Rattle.model.specs.Expand.{compare_stock, stock_instances, cut_instances, expand_project}
-use Rattle.lists.proofs.Perm.{perm_sym, All, Pairs, all_map, all_append, all_left, all_right, all_perm, pairs_perm, sort_by_perm}
+use Rattle.trust.specs.Admitted.{Admitted, Differ, DifferBoards, Distinct}
+use Rattle.lists.proofs.Perm.{perm_sym, all_map, all_append, all_left, all_right, all_perm, pairs_perm, sort_by_perm}
 use Rattle.lists.proofs.Every.{concat_map_all, all_map_any, pairs_map}
 use Rattle.lists.proofs.Counts.{count_rises}
 use Rattle.trust.proofs.Truth.{or_false_split}
-use Rattle.trust.proofs.Candidate.{Differ, Distinct}
-use Rattle.trust.proofs.Crossover.{DifferBoards, board_sym}
-use Rattle.trust.proofs.Winner.{Admitted}
+use Rattle.trust.proofs.Crossover.{board_sym}
 
 -- ---- no refusal
 

@@ -9,6 +9,7 @@ use mathlib.Core.List.{List, [], ◌∷◌}
 use mathlib.Core.Option.{some, some-injective}
 use lib.Dec.{T, is_le, compare_is_eq, leb→le, nleb→lt, eqb→eq}
 use Rattle.lists.specs.Base.{is_less, then_with, lexicographic, keep_best, first_best}
+use Rattle.lists.specs.Elements.{All}
 use Rattle.model.specs.declared.GuillotineRectChoice.{GuillotineRectChoice}
 use Rattle.model.specs.declared.Rect.{Rect}
 use Rattle.model.specs.declared.CutInstance.{CutInstance}
@@ -17,8 +18,9 @@ use Rattle.model.specs.Types.{area, cut_area}
 use Rattle.model.specs.Choice.{area_waste, short_side, long_side, free_rect_choice_score}
 use Rattle.model.specs.Sheet.{GuillotineSheet, Insertion, Place, places, score_less, best_place}
 use Rattle.model.specs.Jylanki.{Measure, best_area_fit, best_short_side_fit, best_long_side_fit}
-use Rattle.lists.proofs.Perm.{All, all_both}
-use Rattle.trust.proofs.Placing.{Lies, upright, turned, Good, places_good, best_place_good}
+use Rattle.trust.specs.Sound.{Lies, turned, upright}
+use Rattle.lists.proofs.Perm.{all_both}
+use Rattle.trust.proofs.Placing.{Good, places_good, best_place_good}
 
 -- ---- the first lowest score is lowest in the first number of the score
 

@@ -11,6 +11,7 @@ use mathlib.Core.Option.{none, some, some-ne-none}
 use lib.Dec.{T, leb, eqb, le→leb, eqb→eq}
 use lib.ListN.{length, get_or}
 use Rattle.lists.specs.Base.{concat_map, enumerate_from, first_best}
+use Rattle.lists.specs.Elements.{All}
 use Rattle.model.specs.declared.PatternDirection.{PatternDirection}
 use Rattle.model.specs.declared.RotationPreference.{RotationPreference}
 use Rattle.model.specs.declared.Rect.{Rect}
@@ -20,9 +21,10 @@ use Rattle.model.specs.Types.{no_rect, pattern_code}
 use Rattle.model.specs.Fit.{same_pattern, pattern_matches, rotate_pattern, upright_test, upright_result, turning_matters, rotated_test, rotated_result, upright_fit, rotated_fit, fit_cut_in_rects}
 use Rattle.model.specs.Sheet.{GuillotineSheet, Insertion, Place, places, score_less, best_place}
 use Rattle.model.specs.Jylanki.{Measure, Holds, Chosen}
-use Rattle.lists.proofs.Perm.{All, all_left, all_right}
+use Rattle.trust.specs.Sound.{Lies, turned, upright}
+use Rattle.lists.proofs.Perm.{all_left, all_right}
 use Rattle.trust.proofs.Truth.{and_intro}
-use Rattle.trust.proofs.Placing.{Lies, upright, turned, Good, best_place_good}
+use Rattle.trust.proofs.Placing.{Good, best_place_good}
 use Rattle.trust.proofs.Choice.{paper_measure, best_place_least}
 
 -- how a cut may lie on a board of a pattern: upright, or turned if that is allowed, its grain legal

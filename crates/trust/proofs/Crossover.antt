@@ -8,6 +8,7 @@ use mathlib.Core.List.{List, [], ◌∷◌, ◌++◌, map, append-nil, Memᴰ}
 use mathlib.Core.Option.{none, some, some-injective, none-ne-some}
 use lib.Dec.{T, T_not, not_T}
 use Rattle.lists.specs.Base.{◌<|>◌, to_list, any, retain, find, enumerate, remove_at, concat_map}
+use Rattle.lists.specs.Elements.{Perm, also, All, Pairs}
 use Rattle.model.specs.declared.BaselineGuillotineHeuristic.{BaselineGuillotineHeuristic}
 use Rattle.model.specs.declared.StockInstance.{StockInstance}
 use Rattle.model.specs.declared.CutInstance.{CutInstance}
@@ -17,13 +18,15 @@ use Rattle.model.specs.Sheet.{GuillotineSheet, Insertion, new_sheet, try_insert,
 use Rattle.model.specs.Candidate.{Candidate, contains_key, cuts_for_keys}
 use Rattle.model.specs.Expand.{ProblemInstance}
 use Rattle.model.specs.Search.{best_donor_bin, full_stock, crossover_child, child_of}
-use Rattle.lists.proofs.Perm.{Perm, also, perm_sym, perm_append_left, All, Pairs, all_map, all_right, pairs_perm, mem_perm, map_perm, remove_at_perm, in_all, all_self}
+use Rattle.trust.specs.Admitted.{Differ, DifferBoards, Distinct}
+use Rattle.trust.specs.Proper.{Kept, cuts_of, placed_cuts}
+use Rattle.lists.proofs.Perm.{perm_sym, perm_append_left, all_map, all_right, pairs_perm, mem_perm, map_perm, remove_at_perm, in_all, all_self}
 use Rattle.lists.proofs.Options.{fold_keeps, all_some, through}
 use Rattle.lists.proofs.Every.{map_all}
 use Rattle.lists.proofs.Kept.{retain_append, retain_none, retain_perm, retain_all}
 use Rattle.lists.proofs.Booleans.{is_true, is_false}
 use Rattle.trust.proofs.Placing.{At, enumerate_at}
-use Rattle.trust.proofs.Candidate.{cuts_of, placed_cuts, Differ, Distinct, differ_sym, same_key_refl, same_key_eq, Kept}
+use Rattle.trust.proofs.Candidate.{differ_sym, same_key_refl, same_key_eq}
 use Rattle.trust.proofs.Sheet.{Inserted, all_inserted}
 use Rattle.trust.proofs.Keys.{sheet_keys_cuts}
 use Rattle.trust.proofs.Compact.{bin_panels, bin_found}
@@ -87,9 +90,6 @@ others_unused cuts cs others d p =
 
 pub key_sym : (a b : InstanceKey) → T (same_key a b) → T (same_key b a)
 key_sym a b t = subst (λ (k : InstanceKey). T (same_key k a)) (same_key_eq a b t) (same_key_refl a)
-
-abbrev pub DifferBoards : StockInstance → StockInstance → Type 0
-DifferBoards a b = T (not (same_key (stock_key a) (stock_key b)))
 
 pub board_sym : (a b : StockInstance) → DifferBoards a b → DifferBoards b a
 board_sym a b h = not_T (same_key (stock_key b) (stock_key a)) λ t. T_not (same_key (stock_key a) (stock_key b)) h (key_sym (stock_key b) (stock_key a) t)
@@ -155,11 +155,11 @@ module _ (P : GuillotineSheet → Type 0) (inst : ProblemInstance) (row : Baseli
     (keeps : (i : Insertion) (s t : GuillotineSheet) → Memᴰ i.cut inst.cuts → try_insert inst.kerf_width s i ≡ some t → P s → P t) where
   -- the child, for a donor that is a bin of a candidate which keeps all
   pub child_kept : (left right : Candidate) (donor : GuillotineSheet) (rest : List GuillotineSheet) (child : Candidate) → Perm right.bins (donor ∷ rest)
-      → Kept P inst.kerf_width inst.stock inst.cuts [] left → Kept P inst.kerf_width inst.stock inst.cuts [] right
-      → Crossed inst row left donor child → Kept P inst.kerf_width inst.stock inst.cuts [] child
+      → Kept P inst.stock inst.cuts [] left → Kept P inst.stock inst.cuts [] right
+      → Crossed inst row left donor child → Kept P inst.stock inst.cuts [] child
   unfolding full_stock rebuild new_sheet cuts_of making_of concat_map
   child_kept left right donor rest child p l r x =
-      subst (Kept P inst.kerf_width inst.stock inst.cuts []) x.is (record { boards = own_boards_lem; panels = own_panels_lem; sheets = (own_sheet, tt) })
+      subst (Kept P inst.stock inst.cuts []) x.is (record { boards = own_boards_lem; panels = own_panels_lem; sheets = (own_sheet, tt) })
     where
       cs : List CutInstance
       cs = cuts_of donor

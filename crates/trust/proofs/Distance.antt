@@ -5,7 +5,7 @@ use mathlib.Core.Bool.{Bool, true, false, ◌||◌}
 use lib.Dec.{T, leb, leb→le, le→leb}
 use Rattle.model.specs.declared.Rect.{Rect}
 use Rattle.trust.specs.PieceRules.{kerf_apart}
-use Rattle.trust.proofs.Geometry.{Apart, left_of, right_of, above, beneath}
+use Rattle.trust.specs.Sound.{Apart, above, beneath, left_of, right_of}
 use Rattle.trust.proofs.Truth.{or_left, or_right}
 
 or_split : (a b : Bool) → T (a || b) → T a ⊎ T b

@@ -6,6 +6,7 @@ use mathlib.Core.List.{List, [], ◌∷◌, map}
 use mathlib.Core.Option.{Option, none, some}
 use lib.ListN.{length, length-append}
 use Rattle.lists.specs.Base.{◌>>=◌, to_list, foldl}
+use Rattle.lists.specs.Elements.{All}
 use Rattle.model.specs.declared.BaselineGuillotineHeuristic.{BaselineGuillotineHeuristic}
 use Rattle.model.specs.declared.StockInstance.{StockInstance}
 use Rattle.model.specs.declared.CutInstance.{CutInstance}
@@ -14,20 +15,15 @@ use Rattle.model.specs.Sheet.{GuillotineSheet, Insertion, new_sheet, try_insert,
 use Rattle.model.specs.Candidate.{Candidate, Taken, new_candidate, cut_for_key, cuts_for_keys, insert_in_bins, take_first_fitting_stock, first_end, place_cut_first_fit, place_cuts, reinsert_unused_first_fit, compact_worst_bin}
 use Rattle.model.specs.Expand.{ProblemInstance}
 use Rattle.model.specs.Search.{SearchNumbers, Seed, initial_seeds, candidate_from_seed, initial_population, best_donor_bin, child_of}
-use Rattle.lists.proofs.Perm.{All, all_append}
+use Rattle.trust.specs.Proper.{AllFilled, Filled, cuts_of}
+use Rattle.lists.proofs.Perm.{all_append}
 use Rattle.lists.proofs.Sums.{length-map, length_map_option}
 use Rattle.lists.proofs.Every.{all_any, all_remove_at, concat_map_all}
 use Rattle.trust.proofs.Placing.{first_best_all}
 use Rattle.trust.proofs.Sheet.{all_inserted}
-use Rattle.trust.proofs.Candidate.{cuts_of, inserted_cuts, insert_in_bins_placed, take_first_opened}
+use Rattle.trust.proofs.Candidate.{inserted_cuts, insert_in_bins_placed, take_first_opened}
 use Rattle.trust.proofs.Compact.{without_worst}
 use Rattle.trust.proofs.Crossover.{insertions, child_all}
-
-abbrev pub Filled : GuillotineSheet → Type 0
-Filled s = 0 < length s.placed_pieces
-
-abbrev pub AllFilled : Candidate → Type 0
-AllFilled c = All Filled c.bins
 
 -- ---- the cuts on a sheet are as many as its pieces
 

@@ -4,20 +4,19 @@ use mathlib.Core.Path.{◌≡◌, refl, sym}
 use mathlib.Core.List.{List, [], ◌∷◌}
 use mathlib.Core.Option.{some}
 use Rattle.lists.specs.Base.{is_greater, is_less, retain, enumerate, enumerate_from}
+use Rattle.lists.specs.Elements.{All}
 use Rattle.model.specs.declared.BaselineGuillotineHeuristic.{BaselineGuillotineHeuristic}
 use Rattle.model.specs.Sheet.{GuillotineSheet}
 use Rattle.model.specs.Fitness.{sheet_fitness, compare_float}
 use Rattle.model.specs.Candidate.{Candidate, score, compare_optional_score, is_valid, worst_bin}
 use Rattle.model.specs.Expand.{ProblemInstance}
-use Rattle.model.specs.Search.{SearchNumbers, default_heuristic, initial_population, run_generations, best_donor_bin, select_best_valid, winner}
-use Rattle.lists.proofs.Perm.{All}
+use Rattle.model.specs.Search.{SearchNumbers, default_heuristic, initial_population, run_generations, best_donor_bin, select_best_valid, winner, best_first}
+use Rattle.trust.specs.Admitted.{Admitted, Ranged}
+use Rattle.trust.specs.Proper.{Bounded, CandidateProper}
 use Rattle.lists.proofs.Preorder.{Preorder, greater_less, reversed, mapped}
 use Rattle.lists.proofs.FirstBest.{First, first_best_lem}
-use Rattle.trust.proofs.Winner.{Admitted}
-use Rattle.trust.proofs.Ranges.{Ranged}
-use Rattle.trust.proofs.Bounded.{Bounded}
-use Rattle.trust.proofs.Proper.{CandidateProper, generations_proper}
-use Rattle.trust.proofs.Comparisons.{sheet_order, best_first, candidate_order, valid_proper}
+use Rattle.trust.proofs.Proper.{generations_proper}
+use Rattle.trust.proofs.Comparisons.{sheet_order, candidate_order, valid_proper}
 
 -- ---- sheets
 

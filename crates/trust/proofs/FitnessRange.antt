@@ -17,6 +17,7 @@ use lib.Ieee.Exact.{HasValue}
 use lib.Ieee.Order.{le_of_values}
 use borrow.Author.Tests.{ne_eqb}
 use Rattle.lists.specs.Base.{is_empty, is_some, sum, foldl}
+use Rattle.lists.specs.Elements.{All}
 use Rattle.model.specs.declared.BaselineGuillotineHeuristic.{BaselineGuillotineHeuristic}
 use Rattle.model.specs.Types.{area, stock_area}
 use Rattle.model.specs.Sheet.{GuillotineSheet, PlacedPiece, placed_area}
@@ -24,16 +25,14 @@ use Rattle.model.specs.Fitness.{weight, positive_zero, one, sheet_fitness, used_
 use Rattle.model.specs.Candidate.{Candidate, has_duplicate_keys, placed_cut_keys, cuts_for_keys, is_valid}
 use Rattle.model.specs.Expand.{ProblemInstance}
 use Rattle.model.specs.Search.{SearchNumbers, winner}
-use Rattle.lists.proofs.Perm.{All, all_both, all_left}
+use Rattle.lists.proofs.Perm.{all_both, all_left}
 use Rattle.trust.specs.Limits.{most_area, most_areas}
-use Rattle.trust.proofs.Geometry.{Positive}
-use Rattle.trust.proofs.Sheet.{piece_rects}
+use Rattle.trust.specs.Sound.{Positive, piece_rects}
+use Rattle.trust.specs.Admitted.{Admitted, Ranged}
+use Rattle.trust.specs.Proper.{Bounded, CandidateProper, Filled, SheetProper}
 use Rattle.trust.proofs.Lists.{empty_nil, first_of_three}
-use Rattle.trust.proofs.Winner.{Admitted}
-use Rattle.trust.proofs.Ranges.{Ranged}
-use Rattle.trust.proofs.Bounded.{Bounded, board_area_most, placed_most}
-use Rattle.trust.proofs.Filled.{Filled}
-use Rattle.trust.proofs.Proper.{SheetProper, CandidateProper, winner_proper}
+use Rattle.trust.proofs.Bounded.{board_area_most, placed_most}
+use Rattle.trust.proofs.Proper.{winner_proper}
 use Rattle.trust.proofs.CandidateSize.{piece_count, pieces_kept, candidate_counts}
 use Rattle.trust.proofs.Rounding.{has_number, lt_of_values}
 use Rattle.trust.proofs.Fractions.{Upto, Between, between_upto, part_upto, part, times, plus, quotient}

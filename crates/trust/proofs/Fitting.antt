@@ -9,6 +9,7 @@ use mathlib.Core.Option.{some}
 use lib.Dec.{T, eqb}
 use borrow.Author.Tests.{eq-eqb}
 use Rattle.lists.specs.Base.{enumerate}
+use Rattle.lists.specs.Elements.{All}
 use Rattle.model.specs.declared.Rect.{Rect}
 use Rattle.model.specs.declared.PatternDirection.{PatternDirection}
 use Rattle.model.specs.declared.RotationPreference.{RotationPreference}
@@ -18,14 +19,13 @@ use Rattle.model.specs.declared.FitResult.{FitResult}
 use Rattle.model.specs.Types.{stock_rect, pattern_code, flag_code}
 use Rattle.model.specs.Fit.{pattern_matches, upright_test, upright_result, turning_matters, rotated_test, rotated_result, upright_fit, rotated_fit, fit_cut_in_rects}
 use Rattle.model.specs.Sheet.{GuillotineSheet, PlacedPiece, Insertion, Place, new_sheet, places, best_place, insert_at, try_insert, rebuild}
-use Rattle.lists.proofs.Perm.{All, all_append}
+use Rattle.lists.proofs.Perm.{all_append}
 use Rattle.lists.proofs.Options.{fold_keeps}
 use Rattle.lists.proofs.Every.{all_any, all_if, map_all, concat_map_all}
 use Rattle.lists.proofs.Booleans.{is_true}
 use Rattle.trust.specs.PieceRules.{lies_as, is_fit}
-use Rattle.trust.proofs.Geometry.{Within}
-use Rattle.trust.proofs.Placing.{Lies, upright, turned, first_best_all, at_best}
-use Rattle.trust.proofs.Winner.{Legal}
+use Rattle.trust.specs.Sound.{Legal, Lies, Within, turned, upright}
+use Rattle.trust.proofs.Placing.{first_best_all, at_best}
 use Rattle.trust.proofs.Prefilter.{any_mem, fits_upright, fits_turned}
 use Rattle.trust.proofs.Truth.{and_split, and_intro, of_true}
 use Rattle.trust.proofs.RoundTrip.{piece_view}

@@ -5,11 +5,12 @@ use mathlib.Core.List.{List, [], ◌∷◌}
 use mathlib.Core.Option.{some}
 use lib.Dec.{T}
 use Rattle.lists.specs.Base.{to_list, retain}
+use Rattle.lists.specs.Elements.{All}
 use Rattle.model.specs.declared.BaselineGuillotineHeuristic.{BaselineGuillotineHeuristic}
 use Rattle.model.specs.Candidate.{Candidate, reinsert_unused_first_fit, compact_worst_bin, is_valid}
 use Rattle.model.specs.Expand.{ProblemInstance}
 use Rattle.model.specs.Search.{child_of, children, crossover_population, repair_population, compact_population, survival_generation, generation, run_generations, select_best_valid}
-use Rattle.lists.proofs.Perm.{perm_sym, sort_by_perm, All, all_map, all_append, all_perm}
+use Rattle.lists.proofs.Perm.{perm_sym, sort_by_perm, all_map, all_append, all_perm}
 use Rattle.lists.proofs.Kept.{retain_sub}
 use Rattle.lists.proofs.Every.{all_take, map_all}
 use Rattle.trust.proofs.Placing.{first_best_all}

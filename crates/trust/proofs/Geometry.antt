@@ -9,31 +9,14 @@ use mathlib.Core.Option.{none, some, some-injective, none-ne-some}
 use lib.Dec.{T, eqb, eqb→eq}
 use Rattle.model.specs.declared.Rect.{Rect}
 use Rattle.model.specs.Merge.{below, beside, stacked, joined, merge_adjacent_rects}
+use Rattle.trust.specs.Sound.{Apart, Positive, Within, above, beneath, left_of, right_of}
 use Rattle.trust.proofs.Truth.{and_split}
-
--- a kerf apart: along x or along y, one's start plus its side plus the kerf is at most the other's start
-pub data Apart (kerf : ℕ) (a b : Rect) : Type 0 where
-  left_of : a.x + a.width + kerf ≤ b.x → Apart kerf a b
-  right_of : b.x + b.width + kerf ≤ a.x → Apart kerf a b
-  above : a.y + a.length + kerf ≤ b.y → Apart kerf a b
-  beneath : b.y + b.length + kerf ≤ a.y → Apart kerf a b
 
 pub apart_sym : {kerf : ℕ} (a b : Rect) → Apart kerf a b → Apart kerf b a
 apart_sym a b (left_of h) = right_of h
 apart_sym a b (right_of h) = left_of h
 apart_sym a b (above h) = beneath h
 apart_sym a b (beneath h) = above h
-
-pub record Positive (r : Rect) : Type 0 where
-  pub wide : 0 < r.width
-  pub long : 0 < r.length
-
--- a lies in b
-pub record Within (b a : Rect) : Type 0 where
-  pub left : b.x ≤ a.x
-  pub top : b.y ≤ a.y
-  pub right : a.x + a.width ≤ b.x + b.width
-  pub bottom : a.y + a.length ≤ b.y + b.length
 
 pub within_trans : {a b c : Rect} → Within a b → Within b c → Within a c
 within_trans p q = record { left = omega arith; top = omega arith; right = omega arith; bottom = omega arith }

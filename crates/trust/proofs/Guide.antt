@@ -11,6 +11,7 @@ use mathlib.Core.Option.{Option, none, some, some-injective, none-ne-some}
 use lib.Dec.{T, eqb, ltb, ltb→lt, eqb→eq, eqb_refl}
 use borrow.Author.Tests.{ne_eqb, lt-leb}
 use Rattle.lists.specs.Base.{◌>>=◌, ◌<|>◌}
+use Rattle.lists.specs.Elements.{Perm, also}
 use Rattle.model.specs.declared.Rect.{Rect}
 use Rattle.model.specs.declared.Direction.{Direction}
 use Rattle.model.specs.declared.CutInstance.{CutInstance}
@@ -20,11 +21,12 @@ use Rattle.model.specs.Split.{split_direction, bottom_remainder, right_remainder
 use Rattle.model.specs.Guide.{GuideCut, SliceNode, cut, leaf, free, cut_piece, span, guide_cut, cut_off, insert_subtree, replace_free_leaf}
 use Rattle.model.specs.Sheet.{GuillotineSheet, Insertion, Place, split_rects, split_tree, insert_at}
 use Rattle.model.specs.Merge.{merges_any}
-use Rattle.lists.proofs.Perm.{Perm, also, perm_refl, perm_append_left, perm_append_right, perm_append_comm, perm_middle}
+use Rattle.trust.specs.WellCut.{first_part, guide_cut_of, second_part}
+use Rattle.trust.specs.Sound.{Positive}
+use Rattle.lists.proofs.Perm.{perm_refl, perm_append_left, perm_append_right, perm_append_comm, perm_middle}
 use Rattle.lists.proofs.Options.{through, Through}
 use Rattle.lists.proofs.Booleans.{is_true}
 use Rattle.trust.proofs.Truth.{and_split}
-use Rattle.trust.proofs.Geometry.{Positive}
 use Rattle.trust.proofs.RectLayout.{Corner}
 
 unfoldable pub free_leaves : SliceNode → List Rect
@@ -132,15 +134,6 @@ replace_present (leaf r (cut_piece key)) target sub m = absurd (Memᴰ.not-nil m
 
 -- ---- the subtree of an insertion
 
--- what a cut leaves before its offset, and behind its kerf
-abbrev pub first_part : Direction → ℕ → Rect → Rect
-first_part Direction.Horizontal offset w = rect w.x w.y w.width offset
-first_part Direction.Vertical offset w = rect w.x w.y offset w.length
-
-abbrev pub second_part : Direction → ℕ → ℕ → Rect → Rect
-second_part Direction.Horizontal offset kerf w = rect w.x (w.y + offset + kerf) w.width (w.length - offset - kerf)
-second_part Direction.Vertical offset kerf w = rect (w.x + offset + kerf) w.y (w.width - offset - kerf) w.length
-
 -- f is cut along d behind p, and what lies before that cut is cut along the other axis, each where more than a kerf is left
 abbrev pub crossing : Direction → Direction
 crossing Direction.Horizontal = Direction.Vertical
@@ -190,9 +183,6 @@ module _ (kerf : ℕ) (f p : Rect) where
   unfolding split_free_rect bottom_remainder right_remainder
   pushed Direction.Horizontal = perm_append_comm (behind Direction.Vertical (before Direction.Horizontal)) (behind Direction.Horizontal f)
   pushed Direction.Vertical = perm_refl _
-
-abbrev pub guide_cut_of : Rect → Direction → ℕ → ℕ → GuideCut
-guide_cut_of work o offset kerf = record { work_rect = work; orientation = o; offset = offset; kerf_width = kerf }
 
 -- Cut::new never fails where a remainder is pushed
 pub guide_cut_some : (work : Rect) (o : Direction) (offset kerf : ℕ) → Positive work → 0 < offset → offset + kerf < span o work

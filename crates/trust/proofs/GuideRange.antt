@@ -9,6 +9,7 @@ use mathlib.Core.Option.{Option, none, some, some-injective, none-ne-some}
 use lib.Dec.{T, eqb, leb}
 use borrow.Author.Tests.{leb-false}
 use Rattle.lists.specs.Base.{◌>>=◌}
+use Rattle.lists.specs.Elements.{All}
 use Rattle.model.specs.declared.Rect.{Rect}
 use Rattle.model.specs.declared.Direction.{Direction}
 use Rattle.model.specs.declared.CutInstance.{CutInstance}
@@ -18,33 +19,21 @@ use Rattle.model.specs.Guide.{GuideCut, SliceNode, cut, leaf, free, cut_piece, s
 use Rattle.model.specs.Sheet.{GuillotineSheet, Insertion, Place, insert_at}
 use Rattle.model.specs.Refusal.{most_instances}
 use Rattle.model.specs.Plan.{preorder, nodes_of}
-use Rattle.lists.proofs.Perm.{All, all_append, all_left, all_right}
+use Rattle.trust.specs.WellCut.{CutIn, GuideIn, NodeWithin, first_part, guide_cut_of, second_part}
+use Rattle.trust.specs.Sound.{Positive, Within}
+use Rattle.trust.specs.Admitted.{PanelRange}
+use Rattle.lists.proofs.Perm.{all_append, all_left, all_right}
 use Rattle.lists.proofs.Every.{all_if}
 use Rattle.trust.proofs.Truth.{or_false_split}
-use Rattle.trust.proofs.Geometry.{Positive, Within, within_trans}
+use Rattle.trust.proofs.Geometry.{within_trans}
 use Rattle.trust.proofs.RectLayout.{Corner}
 use Rattle.trust.proofs.Placing.{Good}
-use Rattle.trust.proofs.Guide.{first_part, second_part, crossing, over, before, behind, cut_twice, room, crossing_room, guide_cut_of, Grafted, at_leaf, in_first, in_second, regrown}
-use Rattle.trust.proofs.Ranges.{PanelRange}
+use Rattle.trust.proofs.Guide.{crossing, over, before, behind, cut_twice, room, crossing_room, Grafted, at_leaf, in_first, in_second, regrown}
 
 -- ---- a node
 
-pub record KeyRange (key : InstanceKey) : Type 0 where
-  pub id : key.id < 2 ^ 64
-  pub instance : key.instance < most_instances
-
-pub record CutIn (kerf : ℕ) (board : Rect) (c : GuideCut) : Type 0 where
-  pub work : Within board c.work_rect
-  pub offset : c.offset + kerf < span c.orientation c.work_rect
-  pub kerf_width : c.kerf_width ≡ kerf
-
-abbrev pub NodeIn : ℕ → Rect → SliceNode → Type 0
-NodeIn kerf board (cut c first second) = CutIn kerf board c
-NodeIn kerf board (leaf r free) = Within board r
-NodeIn kerf board (leaf r (cut_piece key)) = Within board r × KeyRange key
-
 abbrev pub TreeIn : ℕ → Rect → SliceNode → Type 0
-TreeIn kerf board tree = All (NodeIn kerf board) (preorder tree)
+TreeIn kerf board tree = All (NodeWithin kerf board) (preorder tree)
 
 -- what Cut::new makes
 guide_cut_in : (board work : Rect) (o : Direction) (offset kerf : ℕ) (c : GuideCut) → Within board work → guide_cut work o offset kerf ≡ some c → CutIn kerf board c
@@ -70,13 +59,13 @@ module _ (kerf : ℕ) (board : Rect) where
   graft_in at_leaf h s = s
   graft_in (in_first {c} {a} {b} {n} g) h s = (
     h.0,
-    all_append (NodeIn kerf board) (preorder n) (preorder b) (graft_in g (all_left (NodeIn kerf board) (preorder a) (preorder b) h.1) s)
-        (all_right (NodeIn kerf board) (preorder a) (preorder b) h.1),
+    all_append (NodeWithin kerf board) (preorder n) (preorder b) (graft_in g (all_left (NodeWithin kerf board) (preorder a) (preorder b) h.1) s)
+        (all_right (NodeWithin kerf board) (preorder a) (preorder b) h.1),
   )
   graft_in (in_second {c} {a} {b} {n} g) h s = (
     h.0,
-    all_append (NodeIn kerf board) (preorder a) (preorder n) (all_left (NodeIn kerf board) (preorder a) (preorder b) h.1)
-        (graft_in g (all_right (NodeIn kerf board) (preorder a) (preorder b) h.1) s),
+    all_append (NodeWithin kerf board) (preorder a) (preorder n) (all_left (NodeWithin kerf board) (preorder a) (preorder b) h.1)
+        (graft_in g (all_right (NodeWithin kerf board) (preorder a) (preorder b) h.1) s),
   )
 
   cut_off_in : (work : Rect) (o : Direction) (offset : ℕ) (rs : List Rect) (node t : SliceNode) → Within board work → All (Within board) rs → TreeIn kerf board node
@@ -89,7 +78,7 @@ module _ (kerf : ℕ) (board : Rect) where
       go none f k = absurd (none-ne-some t k)
       go (some c) f k =
           subst (TreeIn kerf board) (some-injective _ t k)
-          (guide_cut_in board work o offset kerf c w f, all_append (NodeIn kerf board) (preorder node) (leaf r free ∷ []) n (h.0, tt))
+          (guide_cut_in board work o offset kerf c w f, all_append (NodeWithin kerf board) (preorder node) (leaf r free ∷ []) n (h.0, tt))
 
   first_within : (o : Direction) (offset : ℕ) (w : Rect) → offset ≤ span o w → Within w (first_part o offset w)
   first_within Direction.Horizontal offset w h = record { left = omega arith; top = omega arith; right = omega arith; bottom = omega arith }
@@ -122,17 +111,14 @@ module _ (kerf : ℕ) (board : Rect) where
 
 -- ---- a sheet's guide
 
-abbrev pub GuideIn : ℕ → GuillotineSheet → Type 0
-GuideIn kerf s = All (NodeIn kerf (stock_rect s.stock)) (nodes_of s.slicing_tree)
-
 pub insert_guide_in : (kerf : ℕ) (s : GuillotineSheet) (i : Insertion) (p : Place) → PanelRange i.cut → Positive p.fit.rect → Within (stock_rect s.stock) p.free_rect
     → Good s i p → GuideIn kerf s → GuideIn kerf (insert_at kerf s i p)
 unfolding insert_at nodes_of
 insert_guide_in kerf s i p r pos w g h = go (insert_at kerf s i p).slicing_tree refl
   where
-    go : (o : Option SliceNode) → (insert_at kerf s i p).slicing_tree ≡ o → All (NodeIn kerf (stock_rect s.stock)) (nodes_of o)
+    go : (o : Option SliceNode) → (insert_at kerf s i p).slicing_tree ≡ o → All (NodeWithin kerf (stock_rect s.stock)) (nodes_of o)
     go none e = tt
     go (some t) e =
         let n = regrown kerf s i p t e in
-        graft_in kerf (stock_rect s.stock) n.graft (subst (λ (o : Option SliceNode). All (NodeIn kerf (stock_rect s.stock)) (nodes_of o)) n.was h)
+        graft_in kerf (stock_rect s.stock) n.graft (subst (λ (o : Option SliceNode). All (NodeWithin kerf (stock_rect s.stock)) (nodes_of o)) n.was h)
         (subtree_in kerf (stock_rect s.stock) p.free_rect p.fit.rect i.cut g.fits.corner pos w r _ n.sub n.made)

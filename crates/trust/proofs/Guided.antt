@@ -7,6 +7,7 @@ use mathlib.Core.List.{List, [], ◌∷◌, ◌++◌, map, Memᴰ}
 use mathlib.Core.Option.{Option, none, some, some-injective}
 use lib.ListN.{length}
 use Rattle.lists.specs.Base.{is_some, fold_option, swap_remove}
+use Rattle.lists.specs.Elements.{Perm, keep, also, All}
 use Rattle.model.specs.declared.Rect.{Rect}
 use Rattle.model.specs.declared.StockInstance.{StockInstance}
 use Rattle.model.specs.declared.InstanceKey.{InstanceKey}
@@ -15,7 +16,7 @@ use Rattle.model.specs.Split.{split_direction, split_free_rect}
 use Rattle.model.specs.Merge.{Pair, first_pair, merges_any, merge_free_rects, merge_rounds}
 use Rattle.model.specs.Guide.{SliceNode, leaf, free, insert_subtree, replace_free_leaf}
 use Rattle.model.specs.Sheet.{GuillotineSheet, PlacedPiece, Insertion, Place, new_sheet, split_rects, split_tree, insert_at, try_insert, rebuild}
-use Rattle.lists.proofs.Perm.{Perm, keep, also, perm_refl, perm_sym, perm_append_left, perm_append_right, perm_append_comm, perm_cancel, mem_perm, swap_remove_out, All}
+use Rattle.lists.proofs.Perm.{perm_refl, perm_sym, perm_append_left, perm_append_right, perm_append_comm, perm_cancel, mem_perm, swap_remove_out}
 use Rattle.trust.specs.GuideRules.{merged_from}
 use Rattle.lists.proofs.Sums.{map_append}
 use Rattle.lists.proofs.Options.{through}

@@ -7,14 +7,17 @@ use mathlib.Core.List.{List, [], ◌∷◌, map, Memᴰ}
 use mathlib.Core.Option.{Option, none, some}
 use lib.Dec.{T}
 use Rattle.lists.specs.Base.{◌>>=◌, ◌<|>◌, find, map_option}
+use Rattle.lists.specs.Elements.{All}
 use Rattle.model.specs.declared.CutInstance.{CutInstance}
 use Rattle.model.specs.declared.InstanceKey.{InstanceKey}
 use Rattle.model.specs.Types.{cut_key, same_key}
 use Rattle.model.specs.Sheet.{GuillotineSheet, PlacedPiece, sheet_keys, making_of}
 use Rattle.model.specs.Candidate.{cut_for_key, cuts_for_keys}
-use Rattle.lists.proofs.Perm.{All, in_all}
+use Rattle.trust.specs.Proper.{cuts_of}
+use Rattle.trust.specs.Admitted.{Differ, Distinct}
+use Rattle.lists.proofs.Perm.{in_all}
 use Rattle.lists.proofs.Booleans.{is_true, is_false}
-use Rattle.trust.proofs.Candidate.{cuts_of, Differ, Distinct, same_key_refl}
+use Rattle.trust.proofs.Candidate.{same_key_refl}
 
 pub cut_for_key_known : (catalog : List CutInstance) (c : CutInstance) → Distinct catalog → Memᴰ c catalog → cut_for_key catalog (cut_key c) ≡ some c
 unfolding cut_for_key find

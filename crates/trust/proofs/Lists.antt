@@ -4,7 +4,8 @@ use mathlib.Core.Bool.{Bool, true, false, ◌&&◌}
 use mathlib.Core.List.{List, [], ◌∷◌}
 use lib.Dec.{T}
 use Rattle.lists.specs.Base.{is_empty}
-use Rattle.lists.proofs.Perm.{Perm, keep, flip, also, perm_refl, All, all_map}
+use Rattle.lists.specs.Elements.{Perm, keep, flip, also, All}
+use Rattle.lists.proofs.Perm.{perm_refl, all_map}
 
 -- each element can be brought to the front
 pub record FirstOf {A : Type 0} (xs : List A) (x : A) : Type 0 where

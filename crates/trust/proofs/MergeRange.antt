@@ -5,20 +5,23 @@ use mathlib.Core.Logic.{◌⊎◌, inl, inr}
 use mathlib.Core.List.{List}
 use mathlib.Core.Option.{Option, none, some}
 use Rattle.lists.specs.Base.{swap_remove}
+use Rattle.lists.specs.Elements.{All}
 use Rattle.model.specs.declared.Rect.{Rect}
 use Rattle.model.specs.Types.{no_rect, stock_rect}
 use Rattle.model.specs.Split.{split_direction, split_free_rect}
 use Rattle.model.specs.Merge.{Pair, first_pair, apply_merge, merge_rounds}
 use Rattle.model.specs.Sheet.{GuillotineSheet, Insertion, Place, split_rects}
 use Rattle.model.specs.Refusal.{most_side}
-use Rattle.lists.proofs.Perm.{perm_sym, All, all_map, all_append, all_right, all_perm}
-use Rattle.trust.proofs.Geometry.{Within, within_trans, Joins, merged_joins, joins_within}
+use Rattle.trust.specs.Sound.{Sound, Within, piece_rects}
+use Rattle.trust.specs.Admitted.{PanelRange}
+use Rattle.trust.specs.Proper.{Bounded}
+use Rattle.lists.proofs.Perm.{perm_sym, all_map, all_append, all_right, all_perm}
+use Rattle.trust.proofs.Geometry.{within_trans, Joins, merged_joins, joins_within}
 use Rattle.trust.proofs.RectLayout.{split_layout}
 use Rattle.trust.proofs.Merging.{Mergeable, first_pair_mergeable, round}
 use Rattle.trust.proofs.Placing.{Good}
-use Rattle.trust.proofs.Sheet.{piece_rects, Sound, lies_positive, left, chosen_first}
-use Rattle.trust.proofs.Ranges.{PanelRange}
-use Rattle.trust.proofs.Bounded.{Bounded, RectRange, within_range}
+use Rattle.trust.proofs.Sheet.{lies_positive, left, chosen_first}
+use Rattle.trust.proofs.Bounded.{RectRange, within_range}
 
 -- ---- the split
 

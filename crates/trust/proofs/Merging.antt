@@ -8,12 +8,14 @@ use mathlib.Core.List.{List, [], ◌∷◌, ◌++◌}
 use mathlib.Core.Option.{Option, none, some, some-injective, none-ne-some}
 use lib.ListN.{length, get_or, set, length-set}
 use Rattle.lists.specs.Base.{◌<|>◌, ◌>>=◌, remove_at}
+use Rattle.lists.specs.Elements.{Perm, keep, flip, also}
 use Rattle.model.specs.declared.Rect.{Rect}
 use Rattle.model.specs.Types.{no_rect}
 use Rattle.model.specs.Merge.{Pair, merge_adjacent_rects, find_right, find_pair, first_pair, apply_merge, merge_rounds}
-use Rattle.lists.proofs.Perm.{Perm, keep, flip, also, perm_sym, perm_append_left, perm_middle, remove_at_perm, set_remove_at, length_remove_at, remove_at_set, get_or_remove_at, swap_remove_perm, length_perm}
+use Rattle.trust.specs.Sound.{Layout}
+use Rattle.lists.proofs.Perm.{perm_sym, perm_append_left, perm_middle, remove_at_perm, set_remove_at, length_remove_at, remove_at_set, get_or_remove_at, swap_remove_perm, length_perm}
 use Rattle.trust.proofs.Geometry.{Joins, merged_joins}
-use Rattle.trust.proofs.RectLayout.{Layout, layout_perm, layout_merge}
+use Rattle.trust.proofs.RectLayout.{layout_perm, layout_merge}
 
 -- ---- the pair that the scan finds
 

@@ -8,6 +8,7 @@ use mathlib.Core.Bool.{Bool, true, false}
 use mathlib.Core.List.{List, [], ◌∷◌, ◌++◌}
 use mathlib.Core.Option.{Option, none, some, some-injective, none-ne-some}
 use Rattle.lists.specs.Base.{◌<|>◌, is_empty}
+use Rattle.lists.specs.Elements.{All}
 use Rattle.model.specs.declared.BaselineGuillotineHeuristic.{BaselineGuillotineHeuristic}
 use Rattle.model.specs.declared.LayoutKind.{LayoutKind}
 use Rattle.model.specs.Types.{layout_of, effort_of}
@@ -18,7 +19,7 @@ use Rattle.model.specs.Refusal.{Check, first_that_applies, RecordRule, stock_rul
 use Rattle.model.specs.Search.{SearchNumbers, search_numbers, winner}
 use Rattle.model.specs.Plan.{plan_words}
 use Rattle.model.specs.Answer.{Answer, plan, refused, answer_with, prefilter, solution, searched, optimized}
-use Rattle.lists.proofs.Perm.{All, all_append}
+use Rattle.lists.proofs.Perm.{all_append}
 use Rattle.trust.specs.PieceRules.{asked_by, PieceRules}
 use Rattle.trust.proofs.NoWords.{no_words}
 

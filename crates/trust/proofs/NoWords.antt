@@ -8,6 +8,7 @@ use mathlib.Core.Option.{none, some}
 use lib.Dec.{T, T_not, leb, eqb, leb→le, eqb→eq}
 use lib.ListN.{length}
 use Rattle.lists.specs.Base.{any, all, retain, concat_map}
+use Rattle.lists.specs.Elements.{Perm, All, Pairs}
 use Rattle.model.specs.declared.Rect.{Rect}
 use Rattle.model.specs.declared.BaselineGuillotineHeuristic.{BaselineGuillotineHeuristic}
 use Rattle.model.specs.declared.GuillotineRectChoice.{GuillotineRectChoice}
@@ -24,17 +25,16 @@ use Rattle.model.specs.Candidate.{has_duplicate_keys, contains_key}
 use Rattle.model.specs.Expand.{ProblemInstance}
 use Rattle.model.specs.Refusal.{file_refusal}
 use Rattle.model.specs.Answer.{prefilter}
-use Rattle.lists.proofs.Perm.{Perm, All, Pairs, all_map, in_all}
+use Rattle.lists.proofs.Perm.{all_map, in_all}
 use Rattle.lists.proofs.Sums.{map_append}
 use Rattle.lists.proofs.Every.{map_all, concat_map_all, pairs_each}
 use Rattle.trust.specs.Words.{PieceIn, SheetIn, pieces_in, sheets_in}
 use Rattle.trust.specs.PieceRules.{keys_in, lies_once, uses_board, of_its_size, on_rack, lies_as, is_fit, is_panel, has_fit, inside_board, kerf_apart, pairwise, piece_rects_in, PiecesObey, asked_by, PieceRules}
-use Rattle.trust.proofs.Geometry.{Apart, Within}
-use Rattle.trust.proofs.Placing.{Lies, upright, turned, Fits, fits_all}
-use Rattle.trust.proofs.Sheet.{piece_rects}
-use Rattle.trust.proofs.Candidate.{Distinct, same_key_eq, same_key_refl}
-use Rattle.trust.proofs.Crossover.{DifferBoards, same_board}
-use Rattle.trust.proofs.Winner.{Legal, Admitted}
+use Rattle.trust.specs.Sound.{Apart, Legal, Lies, Within, piece_rects, turned, upright}
+use Rattle.trust.specs.Admitted.{Admitted, DifferBoards, Distinct}
+use Rattle.trust.proofs.Placing.{Fits, fits_all}
+use Rattle.trust.proofs.Candidate.{same_key_eq, same_key_refl}
+use Rattle.trust.proofs.Crossover.{same_board}
 use Rattle.trust.proofs.Checks.{admitted}
 use Rattle.trust.proofs.Prefilter.{Laid, Obeys, no_layout}
 use Rattle.trust.proofs.Distance.{apart_of}

@@ -8,8 +8,8 @@ use lib.Dec.{T, leb, ltb, eqb, leb→le, eqb→eq, le→leb}
 use lib.ListN.{length, take, drop, length-append, length-drop, get_or-append}
 use lib.Seq.{take-append-le, drop-append-le}
 use Rattle.lists.specs.Base.{count_from, range}
+use Rattle.lists.specs.Elements.{All}
 use Rattle.model.specs.Plan.{entry_of, sheet_part}
-use Rattle.lists.proofs.Perm.{All}
 use Rattle.trust.proofs.Truth.{and_split, and_intro}
 use Rattle.trust.specs.Words.{word, sheet_in, sheet_count, sheets_in}
 use Rattle.trust.specs.InLayout.{body_in_layout, start_word, length_word, bodies_from, in_layout, InLayout}

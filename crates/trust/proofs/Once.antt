@@ -10,14 +10,16 @@ use mathlib.Core.List.{List, [], ◌∷◌, ◌++◌, map, Memᴰ}
 use lib.Dec.{T, T_not}
 use lib.ListN.{length}
 use Rattle.lists.specs.Base.{retain}
+use Rattle.lists.specs.Elements.{Perm, done, keep, also, All, Pairs}
 use Rattle.model.specs.declared.CutInstance.{CutInstance}
 use Rattle.model.specs.declared.InstanceKey.{InstanceKey}
 use Rattle.model.specs.Types.{cut_key, same_key}
-use Rattle.lists.proofs.Perm.{Perm, done, keep, also, perm_refl, perm_sym, All, Pairs, all_both, all_perm, map_perm, length_perm, mem_perm, in_all}
+use Rattle.trust.specs.Admitted.{Differ, Distinct}
+use Rattle.lists.proofs.Perm.{perm_refl, perm_sym, all_both, all_perm, map_perm, length_perm, mem_perm, in_all}
 use Rattle.lists.proofs.Every.{map_all}
 use Rattle.lists.proofs.Kept.{retain_none, retain_perm}
 use Rattle.lists.proofs.Booleans.{is_true, is_false}
-use Rattle.trust.proofs.Candidate.{Differ, Distinct, differ_sym, same_key_refl}
+use Rattle.trust.proofs.Candidate.{differ_sym, same_key_refl}
 use Rattle.trust.proofs.Lists.{FirstOf, all_first}
 
 -- ---- how often a key is there

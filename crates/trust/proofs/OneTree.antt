@@ -9,7 +9,7 @@ use mathlib.Core.List.{List, [], ◌∷◌, ◌++◌, append-nil, append_assoc}
 use lib.Dec.{T, eqb→eq}
 use lib.ListN.{length}
 use Rattle.lists.specs.Base.{is_empty, concat_map}
-use Rattle.lists.proofs.Perm.{All}
+use Rattle.lists.specs.Elements.{All}
 use Rattle.lists.proofs.Booleans.{is_true, is_false}
 use Rattle.trust.specs.Words.{NodeIn}
 use Rattle.trust.specs.InLayout.{is_cut, subtrees, one_tree}

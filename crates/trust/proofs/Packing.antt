@@ -10,10 +10,10 @@ use mathlib.Core.List.{List, [], ◌∷◌, map}
 use lib.Dec.{leb, ltb}
 use borrow.Author.Tests.{leb-true, leb-false, ltb-true, ltb-false}
 use Rattle.lists.specs.Base.{sum}
+use Rattle.lists.specs.Elements.{All, Pairs}
 use Rattle.model.specs.declared.Rect.{Rect}
 use Rattle.model.specs.Types.{area}
-use Rattle.lists.proofs.Perm.{All, Pairs}
-use Rattle.trust.proofs.Geometry.{Apart, left_of, right_of, above, beneath, Within}
+use Rattle.trust.specs.Sound.{Apart, Within, above, beneath, left_of, right_of}
 
 -- ---- sums over the numbers below n
 

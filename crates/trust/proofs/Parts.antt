@@ -17,32 +17,19 @@ use Rattle.model.specs.declared.InstanceKey.{InstanceKey}
 use Rattle.model.specs.Types.{stock_rect, cut_key}
 use Rattle.model.specs.Guide.{SliceNode, cut, leaf, free, cut_piece, span, cut_off, insert_subtree}
 use Rattle.model.specs.Sheet.{GuillotineSheet, Insertion, Place, new_sheet, insert_at}
-use Rattle.trust.proofs.Geometry.{Positive}
+use Rattle.trust.specs.WellCut.{InPart, PartsOk, WellCut, cut_in, first_part, free_in, guide_cut_of, piece_in, second_part}
+use Rattle.trust.specs.Sound.{Positive}
 use Rattle.trust.proofs.Placing.{Good}
 use Rattle.trust.proofs.Sheet.{lies_positive}
 use Rattle.trust.proofs.RectLayout.{Corner}
-use Rattle.trust.proofs.Guide.{first_part, second_part, crossing, over, before, inner, cut_twice, room, crossing_room, piece_span, before_positive, guide_cut_of, guide_cut_some, Grafted, at_leaf, in_first, in_second, regrown}
-
-pub record InPart (kerf : ℕ) (part r : Rect) : Type 0 where
-  pub x : r.x ≡ part.x
-  pub y : r.y ≡ part.y
-  pub width : r.width ≤ part.width
-  pub width_short : part.width ≤ r.width + kerf
-  pub length : r.length ≤ part.length
-  pub length_short : part.length ≤ r.length + kerf
-
-pub data WellCut (kerf : ℕ) : Rect → SliceNode → Type 0 where
-  free_in : (part : Rect) → WellCut kerf part (leaf part free)
-  piece_in : {part r : Rect} {k : InstanceKey} → InPart kerf part r → WellCut kerf part (leaf r (cut_piece k))
-  cut_in : {part work : Rect} {o : Direction} {offset : ℕ} {a b : SliceNode} → InPart kerf part work
-      → WellCut kerf (first_part o offset work) a → WellCut kerf (second_part o offset kerf work) b → WellCut kerf part (cut (guide_cut_of work o offset kerf) a b)
+use Rattle.trust.proofs.Guide.{crossing, over, before, inner, cut_twice, room, crossing_room, piece_span, before_positive, guide_cut_some, Grafted, at_leaf, in_first, in_second, regrown}
 
 -- ---- replacing a free leaf by what is well cut in its place
 
 graft_well : {kerf : ℕ} {target : Rect} {sub : SliceNode} {part : Rect} {tree t : SliceNode} → Grafted target sub tree t → WellCut kerf part tree → WellCut kerf target sub → WellCut kerf part t
 graft_well at_leaf (free_in part) w = w
-graft_well (in_first g) (cut_in {part = part} {work = work} {o = o} {offset = offset} h p q) w = cut_in h (graft_well {part = first_part o offset work} g p w) q
-graft_well {kerf = kerf} (in_second g) (cut_in {part = part} {work = work} {o = o} {offset = offset} h p q) w = cut_in h p (graft_well {part = second_part o offset kerf work} g q w)
+graft_well (in_first g) (cut_in {part = part} {work = work} {o = o} {offset = offset} h z r p q) w = cut_in h z r (graft_well {part = first_part o offset work} g p w) q
+graft_well {kerf = kerf} (in_second g) (cut_in {part = part} {work = work} {o = o} {offset = offset} h z r p q) w = cut_in h z r p (graft_well {part = second_part o offset kerf work} g q w)
 
 -- ---- the subtree of an insertion is well cut in the free rectangle
 
@@ -51,7 +38,7 @@ cut_off_well : (kerf : ℕ) (part work : Rect) (o : Direction) (offset : ℕ) (b
     → cut_off work o offset kerf (if b then second_part o offset kerf work ∷ [] else []) node ≡ some tree → WellCut kerf part tree
 unfolding cut_off
 cut_off_well kerf part work o offset true node tree s h k i f g e =
-    subst (WellCut kerf part) (some-injective _ tree (rw (guide_cut_some work o offset kerf s h (k tt)) at e)) (cut_in (i tt) (f tt) (free_in _))
+    subst (WellCut kerf part) (some-injective _ tree (rw (guide_cut_some work o offset kerf s h (k tt)) at e)) (cut_in (i tt) h (k tt) (f tt) (free_in _))
 cut_off_well kerf part work o offset false node tree s h k i f g e = subst (WellCut kerf part) (some-injective node tree e) (g tt)
 
 module _ (kerf : ℕ) (f p : Rect) (c : CutInstance) (at : Corner f p) (s : Positive p) where
@@ -96,9 +83,6 @@ module _ (kerf : ℕ) (f p : Rect) (c : CutInstance) (at : Corner f p) (s : Posi
           (before_positive kerf f p at s d) (piece_span kerf f p s (crossing d)) (crossing_room kerf f p d) (λ t. i) (λ t. piece_in (piece_in_both d)) (λ t. piece_in (j t)) k
 
 -- ---- a sheet's guide
-
-abbrev pub PartsOk : ℕ → GuillotineSheet → Type 0
-PartsOk kerf s = (tree : SliceNode) → s.slicing_tree ≡ some tree → WellCut kerf (stock_rect s.stock) tree
 
 pub new_parts : (kerf : ℕ) (stock : StockInstance) → PartsOk kerf (new_sheet stock)
 unfolding new_sheet

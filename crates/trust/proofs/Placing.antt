@@ -10,6 +10,7 @@ use lib.Dec.{T, leb, leb→le}
 use lib.ListN.{length, get_or, length-append}
 use lib.Seq.{get_or-append_seam}
 use Rattle.lists.specs.Base.{enumerate, enumerate_from, keep_best, first_best}
+use Rattle.lists.specs.Elements.{All}
 use Rattle.model.specs.declared.Rect.{Rect}
 use Rattle.model.specs.declared.CutInstance.{CutInstance}
 use Rattle.model.specs.declared.FitResult.{FitResult}
@@ -18,18 +19,14 @@ use Rattle.model.specs.declared.RotationPreference.{RotationPreference}
 use Rattle.model.specs.Types.{no_rect}
 use Rattle.model.specs.Fit.{pattern_matches, rotate_pattern, upright_test, upright_result, turning_matters, rotated_test, rotated_result, upright_fit, rotated_fit, fit_cut_in_rects}
 use Rattle.model.specs.Sheet.{GuillotineSheet, Insertion, Place, places, best_place, insert_at, try_insert}
-use Rattle.lists.proofs.Perm.{All, all_append}
+use Rattle.trust.specs.Sound.{Lies, turned, upright}
+use Rattle.lists.proofs.Perm.{all_append}
 use Rattle.lists.proofs.Options.{through}
 use Rattle.lists.proofs.Every.{all_if, map_all, concat_map_all}
 use Rattle.trust.proofs.Truth.{and_split}
 use Rattle.trust.proofs.RectLayout.{Corner}
 
 -- ---- a fit
-
--- own size: the record's sides, exchanged if turned, with the pattern that goes with it
-pub data Lies (cut : CutInstance) (f : FitResult) : Type 0 where
-  upright : f.rect.width ≡ cut.width → f.rect.length ≡ cut.length → f.pattern ≡ cut.pattern → f.rotated ≡ false → Lies cut f
-  turned : T cut.can_rotate → f.rect.width ≡ cut.length → f.rect.length ≡ cut.width → f.pattern ≡ rotate_pattern cut.pattern → f.rotated ≡ true → Lies cut f
 
 pub record Fits (cut : CutInstance) (stock : PatternDirection) (free : Rect) (f : FitResult) : Type 0 where
   pub corner : Corner free f.rect

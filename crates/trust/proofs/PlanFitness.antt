@@ -14,10 +14,11 @@ use Rattle.model.specs.Project.{project_of}
 use Rattle.model.specs.Expand.{ProblemInstance}
 use Rattle.model.specs.Plan.{plan_words}
 use Rattle.model.specs.Answer.{plan, answer_with}
-use Rattle.lists.proofs.Perm.{All}
+use Rattle.lists.specs.Elements.{All}
+use Rattle.trust.specs.Admitted.{Ranged}
 use Rattle.lists.proofs.Numbers.{halves}
 use Rattle.trust.proofs.Answer.{instance_of}
-use Rattle.trust.proofs.Ranges.{Byte, Ranged, ranged}
+use Rattle.trust.proofs.Ranges.{Byte, ranged}
 use Rattle.trust.proofs.Planned.{plan_admitted, ProperPlan, Planned, no_cuts, searched_for, planned}
 use Rattle.trust.proofs.FitnessRange.{FitnessOf, Share, proper_fitness, valid_sheets}
 

@@ -1,30 +1,30 @@
 -- The guide of a winner's sheet, as it is read back, obeys the guide rules.
 use Rattle.std.specs.Prelude.{if◌then◌else◌}
-use Prim.Native.Nat.{ℕ, ◌+◌, ◌-◌, ◌*◌, ◌/◌}
+use Prim.Native.Nat.{ℕ, ◌+◌, ◌-◌, ◌*◌, ◌/◌, ◌<◌}
 use native.Mathlib.Omega.{arith}
 use mathlib.Core.Path.{◌≡◌, refl, sym, ap, ◌∙◌, subst}
 use mathlib.Core.Bool.{Bool, true, false, not}
 use mathlib.Core.List.{List, [], ◌∷◌, ◌++◌, map, map-map, append-nil, append_assoc}
 use mathlib.Core.Option.{Option, none, some}
 use lib.Dec.{T, eqb}
-use borrow.Author.Tests.{eq-eqb, le-leb}
+use borrow.Author.Tests.{eq-eqb, le-leb, lt-ltb}
 use Rattle.lists.specs.Base.{sum, retain, is_empty}
+use Rattle.lists.specs.Elements.{Perm}
 use Rattle.model.specs.declared.Rect.{Rect}
 use Rattle.model.specs.declared.Direction.{Direction}
 use Rattle.model.specs.Types.{rect, area, stock_rect, stock_area, direction_code}
-use Rattle.model.specs.Guide.{SliceNode, cut, leaf, free, cut_piece}
+use Rattle.model.specs.Guide.{SliceNode, cut, leaf, free, cut_piece, span}
 use Rattle.model.specs.Sheet.{GuillotineSheet, PlacedPiece, Insertion, new_sheet, placed_area}
 use Rattle.model.specs.Plan.{preorder, nodes_of, along_cut, saw_length, use_of, saw_of}
-use Rattle.lists.proofs.Perm.{Perm}
 use Rattle.lists.proofs.Sums.{map_append}
 use Rattle.lists.proofs.Kept.{retain_append}
 use Rattle.trust.specs.Words.{PieceIn, NodeIn, node_key}
 use Rattle.trust.specs.InLayout.{is_piece, is_waste}
 use Rattle.trust.specs.PieceRules.{piece_rects_in}
-use Rattle.trust.specs.GuideRules.{merged_from, piece_leaves_in, waste_leaves_in, sits_in, part_before, part_after, fills_parts, use_in, saw_in, HasGuide, GuideRules}
-use Rattle.trust.proofs.Guide.{first_part, second_part, free_leaves, piece_leaves}
+use Rattle.trust.specs.GuideRules.{merged_from, piece_leaves_in, waste_leaves_in, sits_in, part_before, part_after, divides, fills_parts, use_in, saw_in, HasGuide, GuideRules}
+use Rattle.trust.specs.WellCut.{InPart, PartsOk, WellCut, cut_in, first_part, free_in, piece_in, second_part}
+use Rattle.trust.proofs.Guide.{free_leaves, piece_leaves}
 use Rattle.trust.proofs.Guided.{piece_entries, GuideState, voided, present, GuideLeaves}
-use Rattle.trust.proofs.Parts.{InPart, WellCut, free_in, piece_in, cut_in, PartsOk}
 use Rattle.trust.proofs.Truth.{of_true}
 use Rattle.trust.proofs.RoundTrip.{piece_view, node_view, sheet_view, key_written}
 use Rattle.trust.proofs.PlanPieces.{rects_read}
@@ -92,6 +92,11 @@ after_read work Direction.Vertical offset kerf =
     let side : work.width - (offset + kerf) ≡ work.width - offset - kerf = omega arith in
     λ i. rect (start i) work.y (side i) work.length
 
+divided : (work : Rect) (o : Direction) (offset kerf : ℕ) → 0 < offset → offset + kerf < span o work → divides (cut_read work o offset kerf) ≡ true
+unfolding divides
+divided work Direction.Horizontal offset kerf z r = rw (lt-ltb 0 offset z, lt-ltb (offset + kerf) work.length r)
+divided work Direction.Vertical offset kerf z r = rw (lt-ltb 0 offset z, lt-ltb (offset + kerf) work.width r)
+
 module _ (kerf : ℕ) where
   -- a tree that is well cut in a part fills it
   fills : {part : Rect} {t : SliceNode} → WellCut kerf part t → (parts : List Rect) (rest : List NodeIn)
@@ -99,8 +104,8 @@ module _ (kerf : ℕ) where
   unfolding fills_parts preorder node_view
   fills (free_in part) parts rest = rw (sits kerf part part (whole_part kerf part))
   fills (piece_in {part} {r} h) parts rest = rw (sits kerf part r h)
-  fills (cut_in {part} {work} {o} {offset} {a} {b} h p q) parts rest =
-      rw (sits kerf part work h, eq-eqb kerf kerf refl, before_read work o offset kerf, after_read work o offset kerf)
+  fills (cut_in {part} {work} {o} {offset} {a} {b} h z r p q) parts rest =
+      rw (sits kerf part work h, eq-eqb kerf kerf refl, divided work o offset kerf z r, before_read work o offset kerf, after_read work o offset kerf)
       (ap (fills_parts kerf (first_part o offset work ∷ second_part o offset kerf work ∷ parts))
       (ap (λ (ns : List NodeIn). ns ++ rest) (map_append node_view (preorder a) (preorder b)) ∙ append_assoc (nodes_read a) (nodes_read b) rest)
       ∙ fills p (second_part o offset kerf work ∷ parts) (nodes_read b ++ rest)

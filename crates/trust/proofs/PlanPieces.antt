@@ -9,6 +9,7 @@ use lib.Dec.{T, leb, eqb, eqb_refl, le→leb}
 use borrow.Author.Tests.{eq-eqb}
 use lib.ListN.{length}
 use Rattle.lists.specs.Base.{any, all, retain, concat_map}
+use Rattle.lists.specs.Elements.{Perm, All, Pairs}
 use Rattle.model.specs.declared.Rect.{Rect}
 use Rattle.model.specs.declared.StockInstance.{StockInstance}
 use Rattle.model.specs.declared.CutInstance.{CutInstance}
@@ -17,20 +18,20 @@ use Rattle.model.specs.Types.{stock_rect, stock_key, cut_key, same_key}
 use Rattle.model.specs.Sheet.{GuillotineSheet, PlacedPiece, making_of, sheet_keys}
 use Rattle.model.specs.Candidate.{Candidate, contains_key, has_duplicate_keys}
 use Rattle.model.specs.Expand.{ProblemInstance}
-use Rattle.lists.proofs.Perm.{Perm, perm_sym, All, Pairs, all_map, all_both, all_left, all_right, pairs_perm, mem_perm, all_self}
+use Rattle.lists.proofs.Perm.{perm_sym, all_map, all_both, all_left, all_right, pairs_perm, mem_perm, all_self}
 use Rattle.lists.proofs.Sums.{map_append}
 use Rattle.lists.proofs.Every.{map_all, all_of_map, pairs_left, pairs_each}
 use Rattle.lists.proofs.Booleans.{is_false}
 use Rattle.trust.specs.Words.{PieceIn, SheetIn, pieces_in}
 use Rattle.trust.specs.PieceRules.{keys_in, lies_once, uses_board, of_its_size, on_rack, is_panel, has_fit, inside_board, kerf_apart, pairwise, piece_rects_in, PiecesObey}
-use Rattle.trust.proofs.Geometry.{Apart, Within}
-use Rattle.trust.proofs.Sheet.{piece_rects}
-use Rattle.trust.proofs.Candidate.{cuts_of, placed_cuts, boards_of, Distinct, same_key_refl}
+use Rattle.trust.specs.Sound.{Apart, Legal, Within, piece_rects}
+use Rattle.trust.specs.Proper.{SheetOk, boards_of, cuts_of, placed_cuts}
+use Rattle.trust.specs.Admitted.{Admitted, DifferBoards, Distinct}
+use Rattle.trust.proofs.Candidate.{same_key_refl}
 use Rattle.trust.proofs.Keys.{sheet_keys_cuts}
-use Rattle.trust.proofs.Crossover.{DifferBoards, board_sym}
+use Rattle.trust.proofs.Crossover.{board_sym}
 use Rattle.trust.proofs.Once.{times, times_perm, own_once}
 use Rattle.trust.proofs.Search.{Won}
-use Rattle.trust.proofs.Winner.{Legal, SheetOk, Admitted}
 use Rattle.trust.proofs.Prefilter.{any_mem}
 use Rattle.trust.proofs.Distance.{apart_passed}
 use Rattle.trust.proofs.Truth.{and_intro, of_true, all_passed, pairs_passed}

@@ -13,6 +13,7 @@ use lib.Ieee.{Float, binary64, add, div, fits, to_bits}
 use lib.Ieee.Bits.{to_bits-lt}
 use lib.Ieee.Fits.{div-fits}
 use Rattle.lists.specs.Base.{foldl, concat_map}
+use Rattle.lists.specs.Elements.{All}
 use Rattle.model.specs.declared.Rect.{Rect}
 use Rattle.model.specs.declared.Direction.{Direction}
 use Rattle.model.specs.declared.PatternDirection.{PatternDirection}
@@ -27,16 +28,17 @@ use Rattle.model.specs.Fitness.{weight, used_stock_area, weighted_fitness, fitne
 use Rattle.model.specs.Project.{project_of}
 use Rattle.model.specs.Plan.{words64, rect_words, piece_words, nodes_of, node_words, along_cut, saw_length, use_of, saw_of, sheet_words, contents_from, plan_words}
 use Rattle.model.specs.Answer.{plan, answer_with}
-use Rattle.lists.proofs.Perm.{All, all_map, all_both, all_append}
+use Rattle.trust.specs.Sound.{piece_rects}
+use Rattle.trust.specs.Admitted.{BoardRange, PanelRange, Ranged}
+use Rattle.trust.specs.WellCut.{NodeWithin}
+use Rattle.trust.specs.Proper.{Bounded, SheetProper}
+use Rattle.lists.proofs.Perm.{all_map, all_both, all_append}
 use Rattle.lists.proofs.Sums.{sum_most}
 use Rattle.lists.proofs.Every.{map_all, concat_map_all}
-use Rattle.trust.proofs.Sheet.{piece_rects}
 use Rattle.trust.proofs.Answer.{instance_of}
-use Rattle.trust.proofs.Ranges.{Byte, BoardRange, PanelRange, Ranged, ranged}
-use Rattle.trust.proofs.GuideRange.{NodeIn}
-use Rattle.trust.proofs.Bounded.{Bounded, RectRange, rect_range, pieces_range, free_range, placed_most}
+use Rattle.trust.proofs.Ranges.{Byte, ranged}
+use Rattle.trust.proofs.Bounded.{RectRange, rect_range, pieces_range, free_range, placed_most}
 use Rattle.trust.proofs.CandidateSize.{SheetCounts, candidate_counts}
-use Rattle.trust.proofs.Proper.{SheetProper}
 use Rattle.trust.proofs.Planned.{plan_admitted, Planned, no_cuts, searched_for, planned}
 use Rattle.trust.proofs.PlanSize.{body_words, plan_length, plan_size_most}
 
@@ -92,7 +94,7 @@ piece_words_lem kerf p h =
 
 -- no side of a rectangle in a board is longer than the longest side
 module _ (kerf : ℕ) (stock : StockInstance) (k : kerf ≤ most_side) (b : BoardRange stock) where
-  node_words_lem : (n : SliceNode) → NodeIn kerf (stock_rect stock) n → All Word (node_words n)
+  node_words_lem : (n : SliceNode) → NodeWithin kerf (stock_rect stock) n → All Word (node_words n)
   unfolding node_words
   node_words_lem (cut c first second) h =
       let r = rect_range kerf stock c.work_rect k b h.work in
@@ -105,7 +107,7 @@ module _ (kerf : ℕ) (stock : StockInstance) (k : kerf ≤ most_side) (b : Boar
   node_words_lem (leaf r free) h = omega arith & omega arith & omega arith & omega arith & rect_words_lem kerf r (rect_range kerf stock r k b h)
   node_words_lem (leaf r (cut_piece key)) h = omega arith & id_words key.id key.instance r h.1.id h.1.instance (rect_range kerf stock r k b h.0)
 
-  saw_most : (n : SliceNode) → NodeIn kerf (stock_rect stock) n → saw_length n ≤ most_side
+  saw_most : (n : SliceNode) → NodeWithin kerf (stock_rect stock) n → saw_length n ≤ most_side
   unfolding saw_length
   saw_most (cut c first second) h = along c.orientation c.work_rect (rect_range kerf stock c.work_rect k b h.work)
     where
@@ -126,7 +128,7 @@ pub saw_range : (kerf : ℕ) (s : GuillotineSheet) → kerf ≤ most_side → Bo
 unfolding saw_of
 saw_range kerf s k h =
     sum_most saw_length most_side (nodes_of s.slicing_tree)
-    (all_map (NodeIn kerf (stock_rect s.stock)) (λ n. saw_length n ≤ most_side) (saw_most kerf s.stock k h.board) (nodes_of s.slicing_tree) h.guide)
+    (all_map (NodeWithin kerf (stock_rect s.stock)) (λ n. saw_length n ≤ most_side) (saw_most kerf s.stock k h.board) (nodes_of s.slicing_tree) h.guide)
 
 pieces_all : (kerf : ℕ) (ps : List PlacedPiece) → All (λ p. PanelRange p.by.cut) ps → All (RectRange kerf) (piece_rects ps) → All (PieceRange kerf) ps
 pieces_all kerf [] h r = tt
@@ -143,7 +145,7 @@ sheet_range kerf s k h c =
     (all_append Word (concat_map piece_words s.placed_pieces) (concat_map rect_words s.free_rects)
     (concat_map_all (PieceRange kerf) Word piece_words (piece_words_lem kerf) s.placed_pieces (pieces_all kerf s.placed_pieces h.panels (pieces_range kerf s k h)))
     (concat_map_all (RectRange kerf) Word rect_words (rect_words_lem kerf) s.free_rects (free_range kerf s k h)))
-    (concat_map_all (NodeIn kerf (stock_rect s.stock)) Word node_words (node_words_lem kerf s.stock k h.board) (nodes_of s.slicing_tree) h.guide)
+    (concat_map_all (NodeWithin kerf (stock_rect s.stock)) Word node_words (node_words_lem kerf s.stock k h.board) (nodes_of s.slicing_tree) h.guide)
 
 -- ---- the plan
 

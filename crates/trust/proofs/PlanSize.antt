@@ -7,6 +7,7 @@ use mathlib.Core.Option.{get_or}
 use lib.ListN.{length, length-append}
 use lib.Ieee.{Float}
 use Rattle.lists.specs.Base.{concat_map, sum}
+use Rattle.lists.specs.Elements.{All}
 use Rattle.model.specs.declared.LayoutKind.{LayoutKind}
 use Rattle.model.specs.declared.BaselineGuillotineHeuristic.{BaselineGuillotineHeuristic}
 use Rattle.model.specs.Types.{layout_of}
@@ -15,13 +16,13 @@ use Rattle.model.specs.Project.{project_of}
 use Rattle.model.specs.Sheet.{GuillotineSheet}
 use Rattle.model.specs.Plan.{sheet_words, contents_from, plan_words}
 use Rattle.model.specs.Answer.{plan, answer_with}
-use Rattle.lists.proofs.Perm.{All, all_map}
+use Rattle.lists.proofs.Perm.{all_map}
 use Rattle.lists.proofs.Sums.{length-map}
 use Rattle.trust.specs.Limits.{plan_limit, most_plan}
+use Rattle.trust.specs.Proper.{FreeCount, NodeCount, SheetProper}
+use Rattle.trust.specs.Admitted.{Ranged}
 use Rattle.trust.proofs.Answer.{instance_of}
-use Rattle.trust.proofs.Sizes.{FreeCount, NodeCount}
-use Rattle.trust.proofs.Ranges.{Byte, Ranged, ranged}
-use Rattle.trust.proofs.Proper.{SheetProper}
+use Rattle.trust.proofs.Ranges.{Byte, ranged}
 use Rattle.trust.proofs.CandidateSize.{piece_count, candidate_counts}
 use Rattle.trust.proofs.RoundTrip.{sheet_length, contents_length}
 use Rattle.trust.proofs.Planned.{plan_admitted, Planned, no_cuts, searched_for, planned}

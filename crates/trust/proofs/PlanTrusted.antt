@@ -10,6 +10,7 @@ use mathlib.Core.Option.{get_or}
 use lib.Dec.{T}
 use lib.ListN.{length, drop}
 use Rattle.lists.specs.Base.{all, is_empty}
+use Rattle.lists.specs.Elements.{All}
 use Rattle.model.specs.declared.BaselineGuillotineHeuristic.{BaselineGuillotineHeuristic}
 use Rattle.model.specs.declared.LayoutKind.{LayoutKind}
 use Rattle.model.specs.declared.Rect.{Rect}
@@ -25,20 +26,20 @@ use Rattle.model.specs.Plan.{plan_words}
 use Rattle.model.specs.Account.{account_from}
 use Rattle.model.specs.Answer.{plan, refused, answer, answer_with, makings}
 use Rattle.model.specs.Outcome.{Outcome, least_workspace, searches, cleared, written, too_small, outcome}
-use Rattle.lists.proofs.Perm.{All, all_map, all_both, all_right, in_all}
+use Rattle.lists.proofs.Perm.{all_map, all_both, all_right, in_all}
 use Rattle.lists.proofs.Every.{map_all, pairs_each}
 use Rattle.trust.specs.Words.{PieceIn, sheets_in}
 use Rattle.trust.specs.InLayout.{InLayout}
 use Rattle.trust.specs.PieceRules.{asked_by, inside_board, kerf_apart, pairwise, piece_rects_in}
 use Rattle.trust.specs.Trusted.{Made, Each, plan_makings, TrustedBy, Trusted}
+use Rattle.trust.specs.Sound.{Apart, piece_rects, sheet_rects}
+use Rattle.trust.specs.Proper.{SheetOk}
+use Rattle.trust.specs.Admitted.{Admitted}
 use Rattle.trust.proofs.Planned.{plan_admitted, empty_plan}
-use Rattle.trust.proofs.Geometry.{Apart}
-use Rattle.trust.proofs.Sheet.{piece_rects, sheet_rects}
 use Rattle.trust.proofs.Area.{areas, areas_append}
 use Rattle.trust.proofs.Account.{board_area_lem}
 use Rattle.trust.proofs.Guided.{guide_present}
 use Rattle.trust.proofs.Search.{Won}
-use Rattle.trust.proofs.Winner.{SheetOk, Admitted}
 use Rattle.trust.proofs.Checks.{admitted}
 use Rattle.trust.proofs.Answer.{FromWinner, not_refused, plan_from_winner}
 use Rattle.trust.proofs.Distance.{apart_passed}

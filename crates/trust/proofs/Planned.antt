@@ -9,6 +9,7 @@ use mathlib.Core.Option.{Option, none, some, get_or}
 use lib.Dec.{T}
 use lib.ListN.{length}
 use Rattle.lists.specs.Base.{is_empty}
+use Rattle.lists.specs.Elements.{All}
 use Rattle.model.specs.declared.LayoutKind.{LayoutKind}
 use Rattle.model.specs.declared.BaselineGuillotineHeuristic.{BaselineGuillotineHeuristic}
 use Rattle.model.specs.declared.CutInstance.{CutInstance}
@@ -21,11 +22,11 @@ use Rattle.model.specs.Expand.{ProblemInstance, expand_project}
 use Rattle.model.specs.Search.{search_numbers}
 use Rattle.model.specs.Plan.{plan_words}
 use Rattle.model.specs.Answer.{plan, refused, answer_with, searched, optimized}
-use Rattle.lists.proofs.Perm.{All}
+use Rattle.trust.specs.Proper.{CandidateProper}
 use Rattle.trust.proofs.Checks.{admitted}
 use Rattle.trust.proofs.Answer.{instance_of, FromWinner, not_refused, same_words, plan_from_winner}
 use Rattle.trust.proofs.Ranges.{Byte, ranged}
-use Rattle.trust.proofs.Proper.{CandidateProper, winner_proper}
+use Rattle.trust.proofs.Proper.{winner_proper}
 
 pub plan_admitted : (rows : List BaselineGuillotineHeuristic) (bytes words : List ℕ) → answer_with rows bytes ≡ plan words → file_refusal bytes ≡ none
 unfolding answer_with

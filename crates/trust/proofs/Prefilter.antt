@@ -10,6 +10,7 @@ use mathlib.Core.Option.{some, none-ne-some}
 use lib.Dec.{T, leb, eqb, le→leb}
 use borrow.Author.Tests.{le-ltb, eqb-true}
 use Rattle.lists.specs.Base.{sum, any, all, concat_map}
+use Rattle.lists.specs.Elements.{Perm, All, Pairs}
 use Rattle.model.specs.declared.PatternDirection.{PatternDirection}
 use Rattle.model.specs.declared.StockInstance.{StockInstance}
 use Rattle.model.specs.declared.CutInstance.{CutInstance}
@@ -19,16 +20,13 @@ use Rattle.model.specs.Sheet.{PlacedPiece}
 use Rattle.model.specs.Expand.{ProblemInstance}
 use Rattle.model.specs.Refusal.{first_that_applies}
 use Rattle.model.specs.Answer.{prefilter}
-use Rattle.lists.proofs.Perm.{Perm, All, Pairs, all_map, all_append, all_perm, mem_perm, sum_perm, all_self}
+use Rattle.trust.specs.Sound.{Apart, Legal, Lies, Within, piece_rects, turned, upright}
+use Rattle.lists.proofs.Perm.{all_map, all_append, all_perm, mem_perm, sum_perm, all_self}
 use Rattle.lists.proofs.Every.{map_all}
 use Rattle.lists.proofs.Booleans.{is_true}
 use Rattle.trust.proofs.Truth.{and_intro, or_left, or_right}
-use Rattle.trust.proofs.Geometry.{Apart, Within}
-use Rattle.trust.proofs.Placing.{Lies, upright, turned}
-use Rattle.trust.proofs.Sheet.{piece_rects}
 use Rattle.trust.proofs.Choice.{lies_area}
 use Rattle.trust.proofs.Packing.{packed_area}
-use Rattle.trust.proofs.Winner.{Legal}
 
 -- pieces on boards: the rules of pieces, whoever laid them
 abbrev pub Laid : Type 0

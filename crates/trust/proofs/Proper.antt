@@ -6,28 +6,26 @@ use mathlib.Core.List.{List, [], ◌∷◌, Memᴰ}
 use mathlib.Core.Option.{some}
 use lib.Dec.{T}
 use Rattle.lists.specs.Base.{to_list, concat_map}
+use Rattle.lists.specs.Elements.{Perm, All}
 use Rattle.model.specs.declared.BaselineGuillotineHeuristic.{BaselineGuillotineHeuristic}
 use Rattle.model.specs.declared.CutInstance.{CutInstance}
 use Rattle.model.specs.Sheet.{GuillotineSheet, Insertion, new_sheet, try_insert}
 use Rattle.model.specs.Candidate.{Candidate, new_candidate, place_cut_first_fit, place_cuts, reinsert_unused_first_fit, compact_worst_bin, is_valid}
 use Rattle.model.specs.Expand.{ProblemInstance}
 use Rattle.model.specs.Search.{SearchNumbers, default_heuristic, initial_population, child_of, run_generations, winner}
-use Rattle.lists.proofs.Perm.{Perm, perm_refl, All, all_map, all_both, in_all}
+use Rattle.trust.specs.Proper.{AllFilled, Bounded, CandidateProper, Kept, SheetOk, SheetProper, UnderWay}
+use Rattle.trust.specs.Admitted.{Admitted, BoardRange, PanelRange, Ranged}
+use Rattle.lists.proofs.Perm.{perm_refl, all_map, all_both, in_all}
 use Rattle.trust.proofs.Sheet.{try_insert_sound, try_insert_rebuilt}
-use Rattle.trust.proofs.Candidate.{Kept, place_kept, places_kept, reinsert_kept}
+use Rattle.trust.proofs.Candidate.{place_kept, places_kept, reinsert_kept}
 use Rattle.trust.proofs.Compact.{compact_kept}
 use Rattle.trust.proofs.Search.{initial_good, child_good}
-use Rattle.trust.proofs.Winner.{SheetOk, new_ok, try_insert_legal, try_insert_parts, Admitted}
-use Rattle.trust.proofs.Ranges.{BoardRange, PanelRange, Ranged}
-use Rattle.trust.proofs.Bounded.{Bounded, new_bounded, try_insert_bounded}
+use Rattle.trust.proofs.Winner.{new_ok, try_insert_legal, try_insert_parts}
+use Rattle.trust.proofs.Bounded.{new_bounded, try_insert_bounded}
 use Rattle.trust.proofs.Generations.{generations_all, best_all}
-use Rattle.trust.proofs.Filled.{AllFilled, place_filled, places_filled, reinsert_filled, compact_filled, child_filled, initial_filled}
+use Rattle.trust.proofs.Filled.{place_filled, places_filled, reinsert_filled, compact_filled, child_filled, initial_filled}
 
 -- ---- a sheet
-
-pub record SheetProper (kerf : ℕ) (s : GuillotineSheet) : Type 0 where
-  pub ok : SheetOk kerf s
-  pub bounded : Bounded kerf s
 
 pub try_insert_proper : (kerf : ℕ) (s : GuillotineSheet) (i : Insertion) (t : GuillotineSheet) → PanelRange i.cut → try_insert kerf s i ≡ some t → SheetProper kerf s → SheetProper kerf t
 try_insert_proper kerf s i t r e h =
@@ -42,15 +40,6 @@ try_insert_proper kerf s i t r e h =
     }
 
 -- ---- a candidate
-
--- with cuts still to be placed
-pub record UnderWay (inst : ProblemInstance) (later : List CutInstance) (c : Candidate) : Type 0 where
-  pub kept : Kept (SheetProper inst.kerf_width) inst.kerf_width inst.stock inst.cuts later c
-  pub filled : AllFilled c
-
--- and with none
-abbrev pub CandidateProper : ProblemInstance → Candidate → Type 0
-CandidateProper inst c = UnderWay inst [] c
 
 module _ (inst : ProblemInstance) (a : Admitted inst) (r : Ranged inst) where
   -- the two premises that the laws of candidates take of a property of sheets
@@ -107,7 +96,7 @@ module _ (rows : List BaselineGuillotineHeuristic) (inst : ProblemInstance) (a :
   row = default_heuristic rows
 
   abbrev KeptAll : Candidate → Type 0
-  KeptAll c = Kept (SheetProper inst.kerf_width) inst.kerf_width inst.stock inst.cuts [] c
+  KeptAll c = Kept (SheetProper inst.kerf_width) inst.stock inst.cuts [] c
 
   both : (cs : List Candidate) → All KeptAll cs → All AllFilled cs → All (CandidateProper inst) cs
   both cs h k = all_both KeptAll AllFilled (CandidateProper inst) (λ c x y. record { kept = x; filled = y }) cs h k

@@ -11,12 +11,14 @@ use lib.Dec.{eqb, ltb}
 use lib.ListN.{length, take, drop}
 use borrow.Author.Tests.{ltb-false, eqb-true, eq-eqb, not-false}
 use Rattle.lists.specs.Base.{sum, range, concat_map, is_empty}
+use Rattle.lists.specs.Elements.{All}
 use Rattle.model.specs.declared.StockInstance.{StockInstance}
 use Rattle.model.specs.declared.CutInstance.{CutInstance}
 use Rattle.model.specs.Project.{Record, Project, little_endian, number, read_record, read_records, project_of, stock_start, stock_length, cuts_start, cuts_length, record_length}
 use Rattle.model.specs.Refusal.{RecordRule, most_side, most_instances, total_quantity, large_side, settings_checks, stock_rule, cut_rule, record_checks, whole_checks, project_checks, file_refusal}
 use Rattle.model.specs.Expand.{ProblemInstance, compare_stock, stock_instances, cut_instances, expand_project}
-use Rattle.lists.proofs.Perm.{perm_sym, length_perm, sort_by_perm, All, all_both, all_left, all_right, all_perm}
+use Rattle.trust.specs.Admitted.{BoardRange, InRange, PanelRange, Ranged}
+use Rattle.lists.proofs.Perm.{perm_sym, length_perm, sort_by_perm, all_both, all_left, all_right, all_perm}
 use Rattle.lists.proofs.Sums.{length-map, length_count_from, length_counted}
 use Rattle.lists.proofs.Every.{all_drop, map_all, concat_map_all, all_map_any}
 use Rattle.lists.proofs.Counts.{count_below}
@@ -24,29 +26,6 @@ use Rattle.trust.proofs.Truth.{or_false_split}
 use Rattle.trust.proofs.Checks.{rows, Passed, Rule, records, nonzero, file_passed}
 
 -- ---- the record
-
--- of a board or a panel: its id, its instance, its width and its length
-pub record InRange (i n w l : ℕ) : Type 0 where
-  pub id : i < 2 ^ 64
-  pub instance : n < most_instances
-  pub wide : 0 < w
-  pub width : w ≤ most_side
-  pub long : 0 < l
-  pub length : l ≤ most_side
-
-abbrev pub BoardRange : StockInstance → Type 0
-BoardRange s = InRange s.stock_id s.instance s.width s.length
-
-abbrev pub PanelRange : CutInstance → Type 0
-PanelRange c = InRange c.cut_id c.instance c.width c.length
-
-pub record Ranged (inst : ProblemInstance) : Type 0 where
-  pub kerf : inst.kerf_width ≤ most_side
-  pub boards : All BoardRange inst.stock
-  pub panels : All PanelRange inst.cuts
-  pub few_boards : length inst.stock ≤ most_instances
-  pub few_panels : length inst.cuts ≤ most_instances
-  pub some_board : 0 < length inst.cuts → 0 < length inst.stock
 
 pub record SettingsRange (p : Project) : Type 0 where
   pub layout : p.layout ≤ 1

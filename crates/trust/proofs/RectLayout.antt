@@ -10,13 +10,10 @@ use Rattle.model.specs.declared.Rect.{Rect}
 use Rattle.model.specs.declared.Direction.{Direction}
 use Rattle.model.specs.Types.{rect}
 use Rattle.model.specs.Split.{bottom_remainder, right_remainder, split_free_rect}
-use Rattle.lists.proofs.Perm.{Perm, All, Pairs, all_map, all_append, all_perm, pairs_perm}
-use Rattle.trust.proofs.Geometry.{Apart, left_of, above, beneath, apart_sym, Positive, Within, within_trans, within_apart, Joins, joins_apart, joins_within, joins_positive}
-
-pub record Layout (kerf : ℕ) (board : Rect) (rs : List Rect) : Type 0 where
-  pub positive : All Positive rs
-  pub within : All (Within board) rs
-  pub apart : Pairs (Apart kerf) rs
+use Rattle.trust.specs.Sound.{Apart, Layout, Positive, Within, above, beneath, left_of}
+use Rattle.lists.specs.Elements.{Perm, All, Pairs}
+use Rattle.lists.proofs.Perm.{all_map, all_append, all_perm, pairs_perm}
+use Rattle.trust.proofs.Geometry.{apart_sym, within_trans, within_apart, Joins, joins_apart, joins_within, joins_positive}
 
 pub layout_perm : {kerf : ℕ} {board : Rect} {xs ys : List Rect} → Perm xs ys → Layout kerf board xs → Layout kerf board ys
 layout_perm p h =

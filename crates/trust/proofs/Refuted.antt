@@ -14,12 +14,12 @@ use Rattle.lists.proofs.Perm.{perm_refl, sum_perm}
 use Rattle.trust.specs.Words.{groups, key_at, rect_at, piece_in, waste_in, node_in, node_key, sheet_in, sheets_in, pieces_in, SheetIn}
 use Rattle.trust.specs.InLayout.{piece_codes, node_codes, subtrees, one_tree, sheet_codes, body_in_layout, bodies_from, in_layout, InLayout}
 use Rattle.trust.specs.PieceRules.{keys_in, lies_once, uses_board, of_its_size, on_rack, lies_as, is_fit, is_panel, has_fit, inside_board, kerf_apart, pairwise, PieceRules}
-use Rattle.trust.specs.GuideRules.{merged_from, piece_leaves_in, waste_leaves_in, sits_in, part_before, part_after, fills_parts, use_in, saw_in}
+use Rattle.trust.specs.GuideRules.{merged_from, piece_leaves_in, waste_leaves_in, sits_in, part_before, part_after, divides, fills_parts, use_in, saw_in}
 use Rattle.trust.specs.Trusted.{plan_makings, Trusted}
 
 -- whoever says `unfolding judge` computes with every rule
 unfoldable judge : List ℕ → List SheetIn
-unfolding evaluate file record_bytes star4 groups key_at rect_at piece_in waste_in node_in node_key sheet_in sheets_in pieces_in piece_codes node_codes subtrees one_tree sheet_codes body_in_layout bodies_from in_layout keys_in lies_once uses_board of_its_size on_rack lies_as is_fit is_panel has_fit inside_board kerf_apart pairwise merged_from piece_leaves_in waste_leaves_in sits_in part_before part_after fills_parts use_in saw_in plan_makings
+unfolding evaluate file record_bytes star4 groups key_at rect_at piece_in waste_in node_in node_key sheet_in sheets_in pieces_in piece_codes node_codes subtrees one_tree sheet_codes body_in_layout bodies_from in_layout keys_in lies_once uses_board of_its_size on_rack lies_as is_fit is_panel has_fit inside_board kerf_apart pairwise merged_from piece_leaves_in waste_leaves_in sits_in part_before part_after divides fills_parts use_in saw_in plan_makings
 judge words = sheets_in words
 
 -- ---- the plans

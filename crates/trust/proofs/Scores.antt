@@ -8,6 +8,7 @@ use mathlib.Core.List.Memᴰ
 use mathlib.Core.List.{List, [], ◌∷◌, ◌++◌, map, Memᴰ}
 use mathlib.Core.Option.{some}
 use Rattle.lists.specs.Base.{is_empty, sum, concat_map}
+use Rattle.lists.specs.Elements.{All}
 use lib.ListN.{length}
 use Rattle.model.specs.declared.PatternDirection.{PatternDirection}
 use Rattle.model.specs.declared.CutInstance.{CutInstance}
@@ -17,17 +18,18 @@ use Rattle.model.specs.Sheet.{GuillotineSheet, PlacedPiece, making_of, sheet_key
 use Rattle.model.specs.Fitness.{used_stock_area, fitness}
 use Rattle.model.specs.Candidate.{Candidate, CandidateScore, contains_key, placed_cut_keys, cuts_for_keys, has_duplicate_keys, is_valid, score}
 use Rattle.model.specs.Expand.{ProblemInstance}
-use Rattle.lists.proofs.Perm.{pairs_perm, perm_sym, All, all_map, mem_perm, all_self}
+use Rattle.trust.specs.Proper.{CandidateProper, SheetProper, cuts_of, placed_cuts}
+use Rattle.trust.specs.Admitted.{Admitted, Differ, Distinct}
+use Rattle.trust.specs.Sound.{Legal}
+use Rattle.lists.proofs.Perm.{pairs_perm, perm_sym, all_map, mem_perm, all_self}
 use Rattle.lists.proofs.Sums.{map_append, sum_append}
 use Rattle.lists.proofs.Every.{pairs_left}
 use Rattle.lists.proofs.Booleans.{is_false}
-use Rattle.trust.proofs.Candidate.{cuts_of, placed_cuts, Differ, Distinct, differ_sym}
+use Rattle.trust.proofs.Candidate.{differ_sym}
 use Rattle.trust.proofs.Keys.{cuts_for_keys_known, sheet_keys_cuts}
 use Rattle.trust.proofs.Crossover.{keys_out}
 use Rattle.trust.proofs.Choice.{lies_area}
-use Rattle.trust.proofs.Winner.{Legal, Admitted}
 use Rattle.trust.proofs.Bounded.{placed_most}
-use Rattle.trust.proofs.Proper.{SheetProper, CandidateProper}
 
 -- ---- the cuts of the pieces, by their keys
 

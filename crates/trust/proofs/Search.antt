@@ -9,6 +9,7 @@ use mathlib.Core.Option.{some}
 use lib.Dec.{T}
 use lib.ListN.{length}
 use Rattle.lists.specs.Base.{is_some, is_empty, to_list, range, swap, concat_map}
+use Rattle.lists.specs.Elements.{Perm, also, All, Pairs}
 use Rattle.model.specs.declared.BaselineGuillotineHeuristic.{BaselineGuillotineHeuristic}
 use Rattle.model.specs.declared.CutInstance.{CutInstance}
 use Rattle.model.specs.declared.InstanceKey.{InstanceKey}
@@ -18,15 +19,17 @@ use Rattle.model.specs.Sheet.{GuillotineSheet, Insertion, new_sheet, try_insert}
 use Rattle.model.specs.Candidate.{Candidate, new_candidate, cuts_for_keys, reinsert_unused_first_fit, compact_worst_bin, has_duplicate_keys, placed_cut_keys, is_valid}
 use Rattle.model.specs.Expand.{ProblemInstance, compare_cut, sorted_cut_order, shuffle_from, shuffle_cut_order}
 use Rattle.model.specs.Search.{SearchNumbers, Seed, default_heuristic, other_heuristics, sorted_seed, variant_seeds, shuffled_seed, initial_seeds, candidate_from_seed, initial_population, best_donor_bin, child_of, run_generations, winner}
-use Rattle.lists.proofs.Perm.{Perm, also, perm_refl, perm_sym, All, Pairs, all_map, all_append, mem_perm, length_perm, map_perm, swap_perm, sort_by_perm, perm_map_inv, all_self}
+use Rattle.trust.specs.Proper.{Kept, boards_of, placed_cuts}
+use Rattle.trust.specs.Admitted.{DifferBoards, Distinct}
+use Rattle.lists.proofs.Perm.{perm_refl, perm_sym, all_map, all_append, mem_perm, length_perm, map_perm, swap_perm, sort_by_perm, perm_map_inv, all_self}
 use Rattle.lists.proofs.Every.{all_any, map_all, concat_map_all}
 use Rattle.trust.proofs.Lists.{FirstOf, all_first, empty_nil, first_of_three}
 use Rattle.trust.proofs.Generations.{generations_all, best_all}
 use Rattle.trust.proofs.Placing.{first_best_all}
-use Rattle.trust.proofs.Candidate.{placed_cuts, boards_of, Distinct, Kept, places_kept, reinsert_kept}
+use Rattle.trust.proofs.Candidate.{places_kept, reinsert_kept}
 use Rattle.trust.proofs.Keys.{cuts_for_keys_known}
 use Rattle.trust.proofs.Compact.{compact_kept}
-use Rattle.trust.proofs.Crossover.{DifferBoards, child_all, child_kept}
+use Rattle.trust.proofs.Crossover.{child_all, child_kept}
 
 -- ---- orders of the cuts
 
@@ -78,7 +81,7 @@ module _ (P : GuillotineSheet → Type 0) (rows : List BaselineGuillotineHeurist
     (fresh : All (λ s. P (new_sheet s)) inst.stock)
     (keeps : (i : Insertion) (s t : GuillotineSheet) → Memᴰ i.cut inst.cuts → try_insert inst.kerf_width s i ≡ some t → P s → P t) where
   abbrev pub Good : Candidate → Type 0
-  Good c = Kept P inst.kerf_width inst.stock inst.cuts [] c
+  Good c = Kept P inst.stock inst.cuts [] c
 
   abbrev row : BaselineGuillotineHeuristic
   row = default_heuristic rows

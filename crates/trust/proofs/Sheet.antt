@@ -5,6 +5,7 @@ use mathlib.Core.Path.{◌≡◌, refl, sym, ap, ◌∙◌, subst, subst₂}
 use mathlib.Core.List.{List, [], ◌∷◌, ◌++◌, map, append-nil, append_assoc}
 use mathlib.Core.Option.{Option, some, some-injective}
 use Rattle.lists.specs.Base.{◌>>=◌, fold_option, swap_remove}
+use Rattle.lists.specs.Elements.{Perm, keep, also}
 use Rattle.model.specs.declared.Rect.{Rect}
 use Rattle.model.specs.declared.Direction.{Direction}
 use Rattle.model.specs.declared.StockInstance.{StockInstance}
@@ -13,23 +14,13 @@ use Rattle.model.specs.Types.{no_rect, stock_rect}
 use Rattle.model.specs.Split.{split_direction, split_free_rect}
 use Rattle.model.specs.Merge.{merge_free_rects}
 use Rattle.model.specs.Sheet.{GuillotineSheet, PlacedPiece, Insertion, Place, new_sheet, split_rects, insert_at, try_insert, rebuild, making_of}
-use Rattle.lists.proofs.Perm.{Perm, keep, also, perm_sym, perm_append_left, perm_append_comm, perm_middle, swap_remove_out}
+use Rattle.trust.specs.Sound.{Layout, Lies, Positive, Rebuilt, Sound, piece_rects, sheet_rects, turned, upright}
+use Rattle.lists.proofs.Perm.{perm_sym, perm_append_left, perm_append_comm, perm_middle, swap_remove_out}
 use Rattle.lists.proofs.Sums.{map_append}
 use Rattle.lists.proofs.Options.{fold_append, through}
-use Rattle.trust.proofs.Geometry.{Positive}
-use Rattle.trust.proofs.RectLayout.{Layout, layout_perm, layout_replace, split_layout}
+use Rattle.trust.proofs.RectLayout.{layout_perm, layout_replace, split_layout}
 use Rattle.trust.proofs.Merging.{merge_rounds_layout}
-use Rattle.trust.proofs.Placing.{Lies, upright, turned, Good, at_place}
-
-abbrev pub piece_rects : List PlacedPiece → List Rect
-piece_rects ps = map (λ p. p.fit.rect) ps
-
--- pieces and waste
-abbrev pub sheet_rects : GuillotineSheet → List Rect
-sheet_rects s = piece_rects s.placed_pieces ++ s.free_rects
-
-abbrev pub Sound : ℕ → GuillotineSheet → Type 0
-Sound kerf s = Layout kerf (stock_rect s.stock) (sheet_rects s)
+use Rattle.trust.proofs.Placing.{Good, at_place}
 
 -- ---- the bare board
 
@@ -113,9 +104,6 @@ all_inserted kerf s t (i ∷ is) e =
       same_stock = more.same_stock ∙ one.same_stock;
       grown = more.grown ∙ ap (λ (l : List Insertion). l ++ is) one.grown ∙ append_assoc (making_of s) (i ∷ []) is;
     }
-
-abbrev pub Rebuilt : ℕ → GuillotineSheet → Type 0
-Rebuilt kerf s = rebuild kerf s.stock (making_of s) ≡ some s
 
 pub new_rebuilt : (kerf : ℕ) (stock : StockInstance) → Rebuilt kerf (new_sheet stock)
 unfolding rebuild new_sheet making_of fold_option

@@ -19,6 +19,7 @@ use Rattle.model.specs.Merge.{Pair, first_pair, apply_merge, merge_rounds, merge
 use Rattle.model.specs.Guide.{GuideCut, SliceNode, cut, leaf, free, cut_piece, span, guide_cut, cut_off, insert_subtree}
 use Rattle.model.specs.Sheet.{GuillotineSheet, PlacedPiece, Insertion, Place, split_rects, insert_at}
 use Rattle.model.specs.Plan.{preorder, nodes_of}
+use Rattle.trust.specs.Proper.{FreeCount, NodeCount}
 use Rattle.lists.proofs.Perm.{length_perm, swap_remove_out}
 use Rattle.trust.proofs.Merging.{first_pair_mergeable, round_length}
 use Rattle.trust.proofs.Guide.{crossing, before, behind, cut_twice, Grafted, at_leaf, in_first, in_second, regrown}
@@ -49,9 +50,6 @@ merge_length kerf (suc n) rs = go (first_pair kerf rs) refl (merge_length kerf n
         → length {A = Rect} (elim o [ none ↦ rs | some p ↦ merge_rounds n kerf (apply_merge rs p) ]) ≤ length rs
     go none e later = le_refl _
     go (some p) e later = omega (arith, later (apply_merge rs p), round_length rs p (first_pair_mergeable kerf rs p e))
-
-abbrev pub FreeCount : GuillotineSheet → Type 0
-FreeCount s = length s.free_rects ≤ length s.placed_pieces + 1
 
 pub insert_free : (kerf : ℕ) (s : GuillotineSheet) (i : Insertion) (p : Place) → Good s i p → FreeCount s → FreeCount (insert_at kerf s i p)
 unfolding insert_at split_rects merge_free_rects
@@ -102,9 +100,6 @@ subtree_nodes d kerf f p c t e =
       cut_off_nodes (before kerf f p d) (crossing d) (span (crossing d) p) kerf (behind kerf f p (crossing d) (before kerf f p d)) piece u.value u.first,
       cut_off_nodes f d (span d p) kerf (behind kerf f p d f) u.value t u.rest,
     )
-
-abbrev pub NodeCount : GuillotineSheet → Type 0
-NodeCount s = length (nodes_of s.slicing_tree) ≤ 4 * length s.placed_pieces + 1
 
 pub insert_nodes : (kerf : ℕ) (s : GuillotineSheet) (i : Insertion) (p : Place) → NodeCount s → NodeCount (insert_at kerf s i p)
 unfolding nodes_of

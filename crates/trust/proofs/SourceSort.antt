@@ -2,15 +2,16 @@
 -- `sort_only` (lists) says that no other list is.
 use mathlib.Core.List.{List, [], ◌∷◌}
 use Rattle.lists.specs.Base.{concat_map, sort_by}
-use Rattle.lists.proofs.Perm.{All}
+use Rattle.lists.specs.Elements.{All}
 use Rattle.lists.proofs.Sorting.{IsSort, sort_is}
 use Rattle.model.specs.declared.CutInstance.{CutInstance}
 use Rattle.model.specs.Candidate.{Candidate}
 use Rattle.model.specs.Project.{Project}
 use Rattle.model.specs.Expand.{ProblemInstance, compare_stock, compare_cut, stock_instances, expand_project}
-use Rattle.trust.proofs.Ranges.{Ranged}
-use Rattle.trust.proofs.Proper.{CandidateProper}
-use Rattle.trust.proofs.Comparisons.{Any, stock_order, cut_order_lem, best_first, candidate_order}
+use Rattle.model.specs.Search.{best_first}
+use Rattle.trust.specs.Admitted.{Ranged}
+use Rattle.trust.specs.Proper.{CandidateProper}
+use Rattle.trust.proofs.Comparisons.{Any, stock_order, cut_order_lem, candidate_order}
 
 -- every element is compared
 anything : {A : Type 0} (xs : List A) → All Any xs

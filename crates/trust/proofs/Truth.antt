@@ -4,7 +4,7 @@ use mathlib.Core.Bool.{Bool, true, false, ◌&&◌, ◌||◌, true≢false}
 use mathlib.Core.List.{List, [], ◌∷◌, map}
 use lib.Dec.{T}
 use Rattle.lists.specs.Base.{all}
-use Rattle.lists.proofs.Perm.{All, Pairs}
+use Rattle.lists.specs.Elements.{All, Pairs}
 use Rattle.trust.specs.PieceRules.{pairwise}
 
 pub of_true : {b : Bool} → b ≡ true → T b

@@ -13,24 +13,16 @@ use Rattle.model.specs.Sheet.{GuillotineSheet, PlacedPiece, Insertion, new_sheet
 use Rattle.model.specs.Candidate.{Candidate}
 use Rattle.model.specs.Expand.{ProblemInstance}
 use Rattle.model.specs.Search.{SearchNumbers, winner}
-use Rattle.lists.proofs.Perm.{All, Pairs, all_append, all_map, in_all}
-use Rattle.trust.proofs.Placing.{Lies, at_place}
-use Rattle.trust.proofs.Sheet.{Sound, new_sound, try_insert_sound, Rebuilt, new_rebuilt, try_insert_rebuilt}
-use Rattle.trust.proofs.Parts.{PartsOk, new_parts, insert_parts}
-use Rattle.trust.proofs.Candidate.{Distinct}
-use Rattle.trust.proofs.Crossover.{DifferBoards}
+use Rattle.trust.specs.Admitted.{Admitted, DifferBoards, Distinct}
+use Rattle.trust.specs.Sound.{Legal, Lies, Rebuilt, Sound}
+use Rattle.trust.specs.Proper.{SheetOk}
+use Rattle.trust.specs.WellCut.{PartsOk}
+use Rattle.lists.specs.Elements.{All, Pairs}
+use Rattle.lists.proofs.Perm.{all_append, all_map, in_all}
+use Rattle.trust.proofs.Placing.{at_place}
+use Rattle.trust.proofs.Sheet.{new_sound, try_insert_sound, new_rebuilt, try_insert_rebuilt}
+use Rattle.trust.proofs.Parts.{new_parts, insert_parts}
 use Rattle.trust.proofs.Search.{Won, winner_won}
-
--- own size and legal grain on a board of this pattern
-pub record Legal (board : PatternDirection) (p : PlacedPiece) : Type 0 where
-  pub lies : Lies p.by.cut p.fit
-  pub grain : T (pattern_matches p.fit.pattern board)
-
-pub record SheetOk (kerf : ℕ) (s : GuillotineSheet) : Type 0 where
-  pub layout : Sound kerf s
-  pub rebuilt : Rebuilt kerf s
-  pub legal : All (Legal s.stock.pattern) s.placed_pieces
-  pub parts : PartsOk kerf s
 
 pub new_ok : (kerf : ℕ) (stock : StockInstance) → 0 < stock.width → 0 < stock.length → SheetOk kerf (new_sheet stock)
 unfolding new_sheet
@@ -46,13 +38,6 @@ try_insert_legal kerf s i t e h =
 pub try_insert_parts : (kerf : ℕ) (s : GuillotineSheet) (i : Insertion) (t : GuillotineSheet) → 0 < i.cut.width → 0 < i.cut.length
     → try_insert kerf s i ≡ some t → PartsOk kerf s → PartsOk kerf t
 try_insert_parts kerf s i t w l e h = at_place (PartsOk kerf) kerf s i t (λ p g. insert_parts kerf s i p w l g h) e
-
--- what the checks 6, 9 and 11 leave
-pub record Admitted (inst : ProblemInstance) : Type 0 where
-  pub boards : All (λ s. (0 < s.width) × (0 < s.length)) inst.stock
-  pub panels : All (λ c. (0 < c.width) × (0 < c.length)) inst.cuts
-  pub own_boards : Pairs DifferBoards inst.stock
-  pub own_panels : Distinct inst.cuts
 
 pub winner_ok : (rows : List BaselineGuillotineHeuristic) (inst : ProblemInstance) → Admitted inst → (n : SearchNumbers) (c : Candidate) → winner rows inst n ≡ some c → Won (SheetOk inst.kerf_width) inst c
 winner_ok rows inst a n c e =

@@ -1,13 +1,13 @@
 -- The guide of a sheet, over its words, with its use and saw.
-use Rattle.std.specs.Prelude.{ℕ, ◌+◌, ◌-◌, ◌*◌, ◌/◌, ◌≡◌, Bool, true, false, not, ◌&&◌, ◌||◌, List, [], ◌∷◌, map, T, leb, eqb, if◌then◌else◌}
+use Rattle.std.specs.Prelude.{ℕ, ◌+◌, ◌-◌, ◌*◌, ◌/◌, ◌≡◌, Bool, true, false, not, ◌&&◌, ◌||◌, List, [], ◌∷◌, map, T, leb, ltb, eqb, if◌then◌else◌}
 use Rattle.std.proofs.Math.Option.{none, some}
 use Rattle.lists.specs.Base.{sum, retain, is_empty}
+use Rattle.lists.specs.Elements.{Perm}
 use Rattle.model.specs.declared.Rect.{Rect}
 use Rattle.model.specs.declared.InstanceKey.{InstanceKey}
 use Rattle.model.specs.Types.{rect, area}
 use Rattle.model.specs.Merge.{merges_any}
 use Rattle.model.specs.Sheet.{GuillotineSheet, Insertion, best_place, split_rects, insert_at}
-use Rattle.lists.proofs.Perm.{Perm}
 use Rattle.trust.specs.Words.{NodeIn, SheetIn, node_key}
 use Rattle.trust.specs.InLayout.{is_cut, is_piece, is_waste}
 use Rattle.trust.specs.PieceRules.{piece_rects_in}
@@ -56,6 +56,10 @@ part_after n =
     then rect r.x (r.y + gap) r.width (r.length - gap)
     else rect (r.x + gap) r.y (r.width - gap) r.length
 
+-- a cut leaves something before its offset and after its kerf of the side that it divides, as Cut::new asks
+unfoldable pub divides : NodeIn → Bool
+divides n = ltb 0 n.second && ltb (n.second + n.third) (if is_horizontal n then n.rect.length else n.rect.width)
+
 -- the nodes fill the parts that are still to come, one subtree each, a cut before its first and its second child
 unfoldable pub fills_parts : ℕ → List Rect → List NodeIn → Bool
 fills_parts kerf [] [] = true
@@ -63,7 +67,10 @@ fills_parts kerf [] (n ∷ nodes) = false
 fills_parts kerf (part ∷ parts) [] = false
 fills_parts kerf (part ∷ parts) (n ∷ nodes) =
     sits_in kerf part n.rect
-    && (if is_cut n then eqb n.third kerf && fills_parts kerf (part_before n ∷ part_after n ∷ parts) nodes else fills_parts kerf parts nodes)
+    && (
+    if is_cut n then eqb n.third kerf && divides n && fills_parts kerf (part_before n ∷ part_after n ∷ parts) nodes
+    else fills_parts kerf parts nodes
+    )
 
 -- ---- use and saw
 

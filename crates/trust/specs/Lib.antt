@@ -1,4 +1,8 @@
 pub mod Limits
+pub mod Admitted
+pub mod Sound
+pub mod WellCut
+pub mod Proper
 pub mod Words
 pub mod InLayout
 pub mod PieceRules

@@ -8,14 +8,15 @@ use lib.Dec.{T, eqb}
 use lib.ListN.{length, get_or}
 use borrow.Author.Tests.{ne_eqb, eqb-true, eqb-false}
 use Rattle.lists.specs.Base.{any}
-use Rattle.lists.proofs.Perm.{All, Pairs}
+use Rattle.lists.specs.Elements.{All, Pairs}
 use Rattle.lists.proofs.Booleans.{is_true, is_false}
 use Rattle.lists.proofs.Every.{all_get}
 use Rattle.model.specs.declared.CutInstance.{CutInstance}
 use Rattle.model.specs.declared.InstanceKey.{InstanceKey}
 use Rattle.model.specs.Types.{same_key, cut_key}
 use Rattle.model.specs.Candidate.{contains_key, has_duplicate_keys}
-use Rattle.trust.proofs.Candidate.{Differ, same_key_refl}
+use Rattle.trust.specs.Admitted.{Differ}
+use Rattle.trust.proofs.Candidate.{same_key_refl}
 use Rattle.trust.proofs.Crossover.{key_sym}
 use Rattle.candidate.specs.Bins.{Other}
 use Rattle.candidate.specs.Keys.{elem, repeats}

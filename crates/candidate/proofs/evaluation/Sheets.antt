@@ -7,7 +7,8 @@ use mathlib.Core.Option.{some}
 use lib.ListN.{length, get_or, take, length-take}
 use lib.Seq.{get_or-take}
 use Rattle.lists.specs.Base.{sum, range}
-use Rattle.lists.proofs.Perm.{perm_sym, All, all_map, all_both, all_left, all_perm, sum_perm, in_all}
+use Rattle.lists.specs.Elements.{All}
+use Rattle.lists.proofs.Perm.{perm_sym, all_map, all_both, all_left, all_perm, sum_perm, in_all}
 use Rattle.lists.proofs.Sums.{length-map, map_append, sum_append}
 use Rattle.lists.proofs.Arrays.{take_next}
 use Rattle.lists.proofs.Counts.{range_below, get_or_range, map_get}
@@ -19,11 +20,10 @@ use Rattle.model.specs.Types.{cut_area, stock_area}
 use Rattle.model.specs.Sheet.{GuillotineSheet, Insertion, new_sheet, rebuild, making_of, placed_area}
 use Rattle.model.specs.Expand.{ProblemInstance}
 use Rattle.trust.specs.Limits.{most_areas}
-use Rattle.trust.proofs.Candidate.{cuts_of}
+use Rattle.trust.specs.Proper.{SheetProper, cuts_of}
+use Rattle.trust.specs.Admitted.{Ranged}
 use Rattle.trust.proofs.Sheet.{all_inserted}
-use Rattle.trust.proofs.Proper.{SheetProper}
 use Rattle.trust.proofs.Scores.{sheet_area}
-use Rattle.trust.proofs.Ranges.{Ranged}
 use Rattle.trust.proofs.CandidateSize.{cut_area_most}
 use Rattle.candidate.specs.declared.Candidate.{Candidate as Words}
 use Rattle.candidate.specs.Entries.{board_of, cut_of, on_board}

@@ -2,7 +2,7 @@
 use Rattle.std.proofs.Common.{◌≡◌, ℕ, ◌≤◌, List, [], ◌∷◌, map, refl, ap, sym, ◌∙◌}
 use lib.Ieee.{Float, binary64, add}
 use Rattle.lists.specs.Base.{sum, foldl}
-use Rattle.lists.proofs.Perm.{All}
+use Rattle.lists.specs.Elements.{All}
 use Rattle.lists.proofs.Maps.{map-map}
 use Rattle.model.specs.Types.{stock_area}
 use Rattle.model.specs.Sheet.{GuillotineSheet, placed_area}

@@ -6,14 +6,15 @@ use mathlib.Core.List.{List, ◌∷◌}
 use mathlib.Core.Option.{some}
 use lib.ListN.{length, get_or, take}
 use lib.Seq.{length-take-le, get_or-take}
-use Rattle.lists.proofs.Perm.{All, all_map, all_both, all_left, in_all}
+use Rattle.lists.proofs.Perm.{all_map, all_both, all_left, in_all}
 use Rattle.lists.proofs.Every.{all_get}
 use Rattle.model.specs.declared.BaselineGuillotineHeuristic.{BaselineGuillotineHeuristic}
 use Rattle.model.specs.declared.StockInstance.{StockInstance}
 use Rattle.model.specs.declared.Rect.{Rect}
 use Rattle.model.specs.Sheet.{GuillotineSheet, Insertion, try_insert}
 use Rattle.model.specs.Expand.{ProblemInstance}
-use Rattle.trust.proofs.Ranges.{Ranged}
+use Rattle.lists.specs.Elements.{All}
+use Rattle.trust.specs.Admitted.{Ranged}
 use Rattle.project.specs.Problem.{Sound, board_in, cut_in}
 use Rattle.candidate.specs.declared.Candidate.{Candidate as Words}
 use Rattle.candidate.specs.Moves.{first_fit_in, take_place}

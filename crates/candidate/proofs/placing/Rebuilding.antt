@@ -5,12 +5,13 @@ use mathlib.Core.Path.{◌≡◌, ◌∙◌}
 use mathlib.Core.Bool.{Bool, true}
 use mathlib.Core.List.{List, ◌++◌, map, Memᴰ}
 use lib.ListN.{length}
-use Rattle.lists.proofs.Perm.{perm_sym, All, all_map, all_both, all_left, all_perm, in_all}
+use Rattle.lists.proofs.Perm.{perm_sym, all_map, all_both, all_left, all_perm, in_all}
 use Rattle.lists.proofs.Counts.{range_below}
 use Rattle.lists.proofs.Every.{all_of_map}
 use Rattle.model.specs.declared.Rect.{Rect}
 use Rattle.model.specs.Expand.{ProblemInstance}
-use Rattle.trust.proofs.Ranges.{Ranged}
+use Rattle.lists.specs.Elements.{All}
+use Rattle.trust.specs.Admitted.{Ranged}
 use Rattle.candidate.specs.declared.Candidate.{Candidate as Words}
 use Rattle.candidate.specs.Entries.{board_of, cut_of}
 use Rattle.candidate.specs.Moves.{new_words}

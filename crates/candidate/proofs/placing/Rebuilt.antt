@@ -15,10 +15,11 @@ use Rattle.model.specs.declared.StockInstance.{StockInstance}
 use Rattle.model.specs.Refusal.{most_side}
 use Rattle.model.specs.Sheet.{GuillotineSheet, Insertion, new_sheet, try_insert, rebuild, making_of}
 use Rattle.model.specs.Expand.{ProblemInstance}
+use Rattle.trust.specs.Proper.{FreeCount}
+use Rattle.trust.specs.Admitted.{BoardRange, Ranged}
 use Rattle.trust.proofs.Sheet.{Inserted, all_inserted}
-use Rattle.trust.proofs.Sizes.{FreeCount, insert_free}
+use Rattle.trust.proofs.Sizes.{insert_free}
 use Rattle.trust.proofs.Placing.{at_place, at_best}
-use Rattle.trust.proofs.Ranges.{BoardRange, Ranged}
 use Rattle.project.specs.Problem.{board_in}
 use Rattle.sheet.specs.Insertions.{Ready}
 use Rattle.sheet.proofs.Sheets.{insert_ready, new_ready}

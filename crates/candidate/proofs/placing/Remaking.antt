@@ -13,7 +13,7 @@ use lib.Seq.{take_all}
 use borrow.Author.Tests.{eqb-true, eqb-false}
 use Rattle.std.proofs.lemmas.List.{get_or-set_same, get_or-set_other}
 use Rattle.lists.specs.Base.{◌>>=◌, is_some, all, retain}
-use Rattle.lists.proofs.Perm.{All}
+use Rattle.lists.specs.Elements.{All}
 use Rattle.lists.proofs.Every.{all_get}
 use Rattle.lists.proofs.Arrays.{take_next}
 use Rattle.lists.proofs.Options.{none_by}
@@ -21,7 +21,7 @@ use Rattle.model.specs.declared.StockInstance.{StockInstance}
 use Rattle.model.specs.declared.Rect.{Rect}
 use Rattle.model.specs.Sheet.{GuillotineSheet, try_insert, rebuild}
 use Rattle.model.specs.Expand.{ProblemInstance}
-use Rattle.trust.proofs.Ranges.{Ranged}
+use Rattle.trust.specs.Admitted.{Ranged}
 use Rattle.project.specs.Problem.{board_in, cut_in}
 use Rattle.candidate.specs.Entries.{board_of, cut_of, heuristic_of, on_board}
 use Rattle.candidate.specs.Stands.{insertion_in, making_in, bin_in}

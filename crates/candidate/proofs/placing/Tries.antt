@@ -11,7 +11,8 @@ use lib.Seq.{take-take, take_all, length-take-le, get_or-take, get_or-drop}
 use borrow.Author.Tests.{le-leb, lt-leb, leb-true, leb-false}
 use Rattle.std.proofs.lemmas.List.{get_or-set_same, get_or-set_other}
 use Rattle.lists.specs.Base.{is_some}
-use Rattle.lists.proofs.Perm.{All, all_map, all_both, all_append}
+use Rattle.lists.specs.Elements.{All}
+use Rattle.lists.proofs.Perm.{all_map, all_both, all_append}
 use Rattle.lists.proofs.Sums.{length-map}
 use Rattle.lists.proofs.Every.{all_get, pairs_across}
 use Rattle.lists.proofs.Arrays.{take_next}
@@ -20,7 +21,7 @@ use Rattle.model.specs.declared.StockInstance.{StockInstance}
 use Rattle.model.specs.declared.Rect.{Rect}
 use Rattle.model.specs.Sheet.{GuillotineSheet, Insertion, new_sheet, try_insert}
 use Rattle.model.specs.Expand.{ProblemInstance}
-use Rattle.trust.proofs.Ranges.{Ranged}
+use Rattle.trust.specs.Admitted.{Ranged}
 use Rattle.project.specs.Problem.{board_in}
 use Rattle.sheet.specs.declared.free_rects.TheConstants.{MOST_RECTS}
 use Rattle.sheet.specs.Places.{Shows}

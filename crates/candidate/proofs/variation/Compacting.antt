@@ -13,7 +13,8 @@ use lib.ListN.{length, get_or, take, drop, length-append, length-drop}
 use lib.Seq.{split_at, take_at, drop_at, take-append-add, get_or-take, length-take-le}
 use borrow.Author.Tests.{lt-ltb, le-ltb, eq-eqb, ne_eqb, eqb-true}
 use Rattle.lists.specs.Base.{retain, range, remove_at}
-use Rattle.lists.proofs.Perm.{Perm, perm_sym, perm_append_left, perm_append_right, perm_append_comm, perm_middle, also, All, Pairs, all_map, all_both, all_self, pairs_perm, mem_perm, in_all, remove_at_perm, length_perm, map_perm}
+use Rattle.lists.specs.Elements.{Perm, also, All, Pairs}
+use Rattle.lists.proofs.Perm.{perm_sym, perm_append_left, perm_append_right, perm_append_comm, perm_middle, all_map, all_both, all_self, pairs_perm, mem_perm, in_all, remove_at_perm, length_perm, map_perm}
 use Rattle.lists.proofs.Sums.{length-map, map_append}
 use Rattle.lists.proofs.Kept.{retain_sub, parted, retain_wider}
 use Rattle.lists.proofs.Every.{pairs_left}
@@ -24,11 +25,10 @@ use Rattle.model.specs.declared.CutInstance.{CutInstance}
 use Rattle.model.specs.Sheet.{GuillotineSheet, Insertion, new_sheet, rebuild, sheet_keys}
 use Rattle.model.specs.Candidate.{Candidate, cuts_for_keys, worst_bin, compacted, compact_worst_bin}
 use Rattle.model.specs.Expand.{ProblemInstance}
-use Rattle.trust.proofs.Candidate.{cuts_of}
+use Rattle.trust.specs.Proper.{SheetProper, UnderWay, cuts_of}
+use Rattle.trust.specs.Admitted.{Admitted, Ranged}
 use Rattle.trust.proofs.Compact.{bin_found}
-use Rattle.trust.proofs.Winner.{Admitted}
-use Rattle.trust.proofs.Ranges.{Ranged}
-use Rattle.trust.proofs.Proper.{SheetProper, UnderWay, compact_proper}
+use Rattle.trust.proofs.Proper.{compact_proper}
 use Rattle.candidate.specs.declared.Candidate.{Candidate as Words}
 use Rattle.candidate.specs.Entries.{board_of, cut_of, on_board}
 use Rattle.candidate.specs.Stands.{insertion_in, making_in, bin_in, sheet_boards, available_boards, placed_words, unused_numbers, candidate_in, Stands}

@@ -11,7 +11,8 @@ use lib.ListN.{length, get_or, take, drop, length-append, take-append-drop}
 use lib.Seq.{get_or-take}
 use borrow.Author.Tests.{eq-eqb}
 use Rattle.lists.specs.Base.{◌>>=◌, retain, find, enumerate, first_best, range, remove_at, to_list}
-use Rattle.lists.proofs.Perm.{Perm, perm_sym, perm_append_right, perm_append_comm, also, All, all_map, all_left, all_perm, mem_perm, in_all, map_perm, remove_at_perm, length_perm}
+use Rattle.lists.specs.Elements.{Perm, also, All}
+use Rattle.lists.proofs.Perm.{perm_sym, perm_append_right, perm_append_comm, all_map, all_left, all_perm, mem_perm, in_all, map_perm, remove_at_perm, length_perm}
 use Rattle.lists.proofs.Sums.{length-map, length_count_from, map_append}
 use Rattle.lists.proofs.Kept.{retain_all, parted, retain_map}
 use Rattle.lists.proofs.Counts.{range_below, map_get}
@@ -26,12 +27,11 @@ use Rattle.model.specs.Sheet.{GuillotineSheet, Insertion, rebuild, sheet_keys}
 use Rattle.model.specs.Candidate.{Candidate, contains_key, cuts_for_keys}
 use Rattle.model.specs.Expand.{ProblemInstance}
 use Rattle.model.specs.Search.{default_heuristic, best_donor_bin, full_stock, crossover_child, child_of}
-use Rattle.trust.proofs.Candidate.{cuts_of}
+use Rattle.trust.specs.Proper.{CandidateProper, SheetProper, UnderWay, cuts_of}
+use Rattle.trust.specs.Admitted.{Admitted, Ranged}
 use Rattle.trust.proofs.Keys.{sheet_keys_cuts}
 use Rattle.trust.proofs.Compact.{bin_found}
-use Rattle.trust.proofs.Winner.{Admitted}
-use Rattle.trust.proofs.Ranges.{Ranged}
-use Rattle.trust.proofs.Proper.{SheetProper, UnderWay, CandidateProper, child_proper}
+use Rattle.trust.proofs.Proper.{child_proper}
 use Rattle.candidate.specs.declared.Candidate.{Candidate as Words}
 use Rattle.candidate.specs.Entries.{board_of, cut_of, on_board}
 use Rattle.candidate.specs.Moves.{new_words, moved_up}

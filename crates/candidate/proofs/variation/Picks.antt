@@ -13,7 +13,8 @@ use lib.Dec.{T, eqb}
 use lib.ListN.{length, get_or}
 use borrow.Author.Tests.{eq-eqb, eqb-true, eqb-false}
 use Rattle.lists.specs.Base.{◌<|>◌, any, retain, find, enumerate_from, enumerate, range}
-use Rattle.lists.proofs.Perm.{Perm, perm_sym, perm_append_left, perm_append_comm, also, All, Pairs, all_map, all_self, pairs_perm}
+use Rattle.lists.specs.Elements.{Perm, also, All, Pairs}
+use Rattle.lists.proofs.Perm.{perm_sym, perm_append_left, perm_append_comm, all_map, all_self, pairs_perm}
 use Rattle.lists.proofs.Kept.{retain_append, retain_none, retain_perm, retain_all}
 use Rattle.lists.proofs.Every.{pairs_across}
 use Rattle.candidate.proofs.Lists.{other_sym, perm_once}

@@ -6,7 +6,8 @@ use mathlib.Core.Path.{◌≡◌, refl, sym, ap, ap₂, ◌∙◌}
 use mathlib.Core.List.{List, [], ◌∷◌, map}
 use lib.ListN.{length}
 use Rattle.lists.specs.Base.{swap}
-use Rattle.lists.proofs.Perm.{Perm, perm_refl, also, swap_perm}
+use Rattle.lists.specs.Elements.{Perm, also}
+use Rattle.lists.proofs.Perm.{perm_refl, swap_perm}
 use Rattle.lists.proofs.Maps.{map_swap}
 use Rattle.lists.proofs.Arrays.{length_swap}
 use Rattle.lists.proofs.Sums.{length-map}

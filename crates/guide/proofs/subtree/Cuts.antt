@@ -15,7 +15,8 @@ use Rattle.model.specs.declared.Direction.{Direction}
 use Rattle.model.specs.Split.{bottom_remainder, right_remainder}
 use Rattle.model.specs.declared.InstanceKey.{InstanceKey}
 use Rattle.model.specs.Guide.{SliceNode, cut, leaf, free, cut_piece, span, cut_off}
-use Rattle.trust.proofs.Guide.{guide_cut_of, guide_cut_some}
+use Rattle.trust.specs.WellCut.{guide_cut_of}
+use Rattle.trust.proofs.Guide.{guide_cut_some}
 use Rattle.sheet.specs.Bounds.{Small, Inside}
 use Rattle.guide.specs.declared.subtree.Node.{Node}
 use Rattle.guide.specs.declared.subtree.CutOff.{CutOff}

@@ -17,7 +17,7 @@ use Rattle.model.specs.Fit.{cut_fits_stock}
 use Rattle.model.specs.Refusal.{first_that_applies}
 use Rattle.model.specs.Expand.{ProblemInstance}
 use Rattle.model.specs.Answer.{prefilter}
-use Rattle.trust.proofs.Ranges.{Ranged}
+use Rattle.trust.specs.Admitted.{Ranged}
 use Rattle.trust.proofs.CandidateSize.{stock_area_most, cut_area_most}
 
 module _ {A : Type 0} where

@@ -17,7 +17,8 @@ use Rattle.model.specs.Refusal.{most_side}
 use Rattle.model.specs.Sheet.{GuillotineSheet}
 use Rattle.model.specs.Plan.{rect_words, piece_words, nodes_of, node_words, use_of, saw_of, sheet_words}
 use Rattle.trust.specs.Limits.{most_area, most_nodes}
-use Rattle.trust.proofs.Bounded.{Bounded, placed_most, board_area_most}
+use Rattle.trust.specs.Proper.{Bounded}
+use Rattle.trust.proofs.Bounded.{placed_most, board_area_most}
 use Rattle.trust.proofs.RoundTrip.{sheet_length, waste_size_lem, pieces_size}
 use Rattle.trust.proofs.PlanRange.{saw_range}
 use Rattle.guide.specs.declared.subtree.Node.{Node}

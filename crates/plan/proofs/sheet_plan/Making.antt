@@ -9,7 +9,8 @@ use lib.Dec.{eqb}
 use lib.ListN.{length, get_or, take, drop, length-append, length-take, take-append-drop}
 use lib.Seq.{take-suc, take-length, take-append-le}
 use Rattle.lists.specs.Base.{◌>>=◌, retain, fold_option}
-use Rattle.lists.proofs.Perm.{All, all_left}
+use Rattle.lists.specs.Elements.{All}
+use Rattle.lists.proofs.Perm.{all_left}
 use Rattle.lists.proofs.Sums.{length-map, map_append}
 use Rattle.lists.proofs.Every.{all_get, all_any}
 use Rattle.lists.proofs.Options.{through, fold_append, fold_keeps}
@@ -17,10 +18,11 @@ use Rattle.lists.proofs.Kept.{retain_append, length_retain, retain_some}
 use Rattle.model.specs.declared.StockInstance.{StockInstance}
 use Rattle.model.specs.Sheet.{GuillotineSheet, PlacedPiece, Insertion, Place, new_sheet, insert_at, try_insert, rebuild, making_of}
 use Rattle.model.specs.Expand.{ProblemInstance}
+use Rattle.trust.specs.Admitted.{BoardRange, PanelRange, Ranged}
+use Rattle.trust.specs.Proper.{Bounded}
 use Rattle.trust.proofs.Placing.{at_place}
 use Rattle.trust.proofs.Sheet.{try_insert_inserted, all_inserted}
-use Rattle.trust.proofs.Ranges.{BoardRange, PanelRange, Ranged}
-use Rattle.trust.proofs.Bounded.{Bounded, new_bounded, try_insert_bounded}
+use Rattle.trust.proofs.Bounded.{new_bounded, try_insert_bounded}
 use Rattle.candidate.specs.Entries.{board_of, cut_of, on_board}
 use Rattle.candidate.specs.Stands.{insertion_in, making_in, bin_in}
 use Rattle.project.specs.Problem.{board_in, cut_in, no_stock, no_cut}

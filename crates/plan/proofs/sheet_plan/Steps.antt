@@ -20,9 +20,10 @@ use Rattle.model.specs.Types.{area, stock_rect}
 use Rattle.model.specs.Guide.{leaf, free}
 use Rattle.model.specs.Sheet.{GuillotineSheet, PlacedPiece, Insertion, Place, new_sheet, insert_at, try_insert, placed_area}
 use Rattle.model.specs.Plan.{piece_words}
-use Rattle.trust.proofs.Ranges.{PanelRange}
+use Rattle.trust.specs.Admitted.{PanelRange}
+use Rattle.trust.specs.Proper.{Bounded}
 use Rattle.trust.proofs.Placing.{best_place_good}
-use Rattle.trust.proofs.Bounded.{Bounded, try_insert_bounded, placed_most, board_area_most}
+use Rattle.trust.proofs.Bounded.{try_insert_bounded, placed_most, board_area_most}
 use Rattle.trust.proofs.RoundTrip.{pieces_size}
 use Rattle.sheet.specs.Places.{place_at, Shows}
 use Rattle.sheet.specs.Insertions.{Insertable, InsertsInto}

@@ -21,8 +21,8 @@ use Rattle.model.specs.declared.BaselineGuillotineHeuristic.{BaselineGuillotineH
 use Rattle.model.specs.Sheet.{GuillotineSheet, Insertion, new_sheet, try_insert}
 use Rattle.model.specs.Expand.{ProblemInstance}
 use Rattle.model.specs.Plan.{piece_words, sheet_words}
-use Rattle.trust.proofs.Ranges.{PanelRange, Ranged}
-use Rattle.trust.proofs.Bounded.{Bounded}
+use Rattle.trust.specs.Admitted.{PanelRange, Ranged}
+use Rattle.trust.specs.Proper.{Bounded}
 use Rattle.sheet.specs.declared.Inserted.{Inserted}
 use Rattle.sheet.specs.Places.{Shows}
 use Rattle.sheet.specs.Insertions.{Insertable, InsertsInto, Inserts}

@@ -11,7 +11,8 @@ use lib.ListN.{length, get_or, take, length-append, length-take}
 use lib.Seq.{take_all}
 use borrow.Author.Tests.{ltb-false}
 use Rattle.lists.specs.Base.{range, concat_map, sum, sort_by}
-use Rattle.lists.proofs.Perm.{All, all_left, all_right}
+use Rattle.lists.specs.Elements.{All}
+use Rattle.lists.proofs.Perm.{all_left, all_right}
 use Rattle.lists.proofs.Sums.{length_count_from, length-map, length_counted, map_append}
 use Rattle.lists.proofs.Every.{all_get}
 use Rattle.lists.proofs.Arrays.{take_next}

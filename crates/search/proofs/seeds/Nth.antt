@@ -3,7 +3,7 @@ use Rattle.std.specs.Prelude.{if◌then◌else◌}
 use Rattle.std.proofs.Common.{◌≡◌, ℕ, zero, suc, ◌+◌, ◌-◌, ◌<◌, ◌≤◌, Bool, true, false, List, [], ◌∷◌, ◌++◌, map, length, get_or, sym, refl, ap, ◌∙◌, subst, not-suc-le-zero, arith, length-append, get_or-append-add}
 use lib.ListN.{get_or-append, get_or-eq_default}
 use Rattle.lists.specs.Base.{range}
-use Rattle.lists.proofs.Perm.{Perm, also}
+use Rattle.lists.specs.Elements.{Perm, also}
 use Rattle.lists.proofs.Sums.{length-map, length_count_from}
 use Rattle.lists.proofs.Maps.{get_d_map, map-map}
 use Rattle.lists.proofs.Counts.{get_or_count}

@@ -10,13 +10,14 @@ use lib.ListN.{length, get_or, take, drop}
 use lib.Seq.{take-take, drop-drop}
 use Rattle.lists.specs.Base.{count_from}
 use Rattle.lists.specs.Parts.{part, patch}
-use Rattle.lists.proofs.Perm.{All, all_append}
+use Rattle.lists.specs.Elements.{All}
+use Rattle.lists.proofs.Perm.{all_append}
 use Rattle.lists.proofs.Sums.{length-map, length_count_from, map_append}
 use Rattle.lists.proofs.Counts.{count_snoc}
 use Rattle.lists.proofs.Parts.{length_part, take_patch, drop_patch, part_patch, part_take}
 use Rattle.model.specs.Candidate.{Candidate}
 use Rattle.model.specs.Expand.{ProblemInstance}
-use Rattle.trust.proofs.Proper.{CandidateProper}
+use Rattle.trust.specs.Proper.{CandidateProper}
 use Rattle.candidate.specs.declared.Candidate.{Candidate as Words}
 use Rattle.candidate.specs.Stands.{candidate_in, Stands}
 use Rattle.search.specs.Slots.{slot_words, slot_of, packed, unpacked, stored_in, store_in}

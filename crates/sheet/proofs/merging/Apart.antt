@@ -8,7 +8,8 @@ use mathlib.Core.List.{List, [], ◌∷◌}
 use mathlib.Core.Option.{Option, none, some, some-injective, none-ne-some}
 use lib.ListN.{length, take}
 use Rattle.lists.specs.Base.{◌<|>◌, ◌>>=◌, swap_remove}
-use Rattle.lists.proofs.Perm.{All, Pairs, pairs_perm, swap_remove_out}
+use Rattle.lists.specs.Elements.{All, Pairs}
+use Rattle.lists.proofs.Perm.{pairs_perm, swap_remove_out}
 use Rattle.lists.proofs.Every.{all_take}
 use Rattle.model.specs.declared.Rect.{Rect}
 use Rattle.model.specs.Types.{no_rect}

@@ -9,7 +9,8 @@ use native.Mathlib.Omega.{arith}
 use lib.ListN.{length, take, get_or, set, length-set}
 use lib.Seq.{take-set-le, take-take}
 use Rattle.lists.specs.Base.{is_some, swap_remove}
-use Rattle.lists.proofs.Perm.{All, all_perm, perm_sym}
+use Rattle.lists.specs.Elements.{All}
+use Rattle.lists.proofs.Perm.{all_perm, perm_sym}
 use Rattle.lists.proofs.InPlace.{swap_remove_index}
 use Rattle.model.specs.declared.Rect.{Rect}
 use Rattle.model.specs.Types.{no_rect}

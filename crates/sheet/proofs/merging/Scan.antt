@@ -11,7 +11,7 @@ use lib.Seq.{drop-cons, drop-drop, get_or-take}
 use Rattle.std.proofs.Common.{drop_of_length-le}
 use Rattle.std.proofs.lemmas.List.{drop-take}
 use Rattle.lists.specs.Base.{◌<|>◌, ◌>>=◌}
-use Rattle.lists.proofs.Perm.{All, Pairs}
+use Rattle.lists.specs.Elements.{All, Pairs}
 use Rattle.model.specs.declared.Rect.{Rect}
 use Rattle.model.specs.Types.{no_rect}
 use Rattle.model.specs.Merge.{merge_adjacent_rects, find_right, find_pair, first_pair}

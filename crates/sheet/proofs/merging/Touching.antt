@@ -10,7 +10,7 @@ use lib.ListN.{length, get_or, take, drop}
 use lib.Seq.{take_all, drop-cons}
 use Rattle.std.proofs.Common.{drop_of_length-le}
 use Rattle.lists.specs.Base.{is_some, any}
-use Rattle.lists.proofs.Perm.{All, Pairs}
+use Rattle.lists.specs.Elements.{All, Pairs}
 use Rattle.lists.proofs.Every.{all_get}
 use Rattle.trust.proofs.Truth.{or_false_split}
 use Rattle.model.specs.declared.Rect.{Rect}

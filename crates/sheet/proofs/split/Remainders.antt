@@ -9,7 +9,8 @@ use lib.Dec.{ltb}
 use lib.ListN.{length}
 use borrow.Author.Tests.{ltb-true}
 use Rattle.lists.specs.Base.{swap_remove}
-use Rattle.lists.proofs.Perm.{All, all_append, all_perm, swap_remove_out}
+use Rattle.lists.specs.Elements.{All}
+use Rattle.lists.proofs.Perm.{all_append, all_perm, swap_remove_out}
 use Rattle.model.specs.declared.Rect.{Rect}
 use Rattle.model.specs.declared.Direction.{Direction}
 use Rattle.model.specs.Types.{no_rect}
