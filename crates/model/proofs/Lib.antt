@@ -1,3 +1,4 @@
 pub mod Memory
 pub mod Stars
 pub mod Plans
+pub mod Endings

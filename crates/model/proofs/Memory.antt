@@ -1,16 +1,16 @@
 -- The rules of the lent memories, read off the definition of the outcome.
-use Prim.Native.Nat.{ℕ, ◌≤◌, ◌<◌}
+use Prim.Native.Nat.{ℕ, suc, ◌≤◌, ◌<◌}
 use mathlib.Core.Path.{◌≡◌, refl, ap, ◌∙◌}
 use mathlib.Core.Logic.{◌⊎◌, inl, inr}
 use mathlib.Core.Bool.{Bool, true, false, ◌||◌}
-use mathlib.Core.List.{List, ◌++◌}
+use mathlib.Core.List.{List, ◌∷◌, ◌++◌}
 use lib.Dec.{ltb}
 use lib.ListN.{length, take, drop, replicate, length-append, length-drop, length-replicate}
 use lib.Seq.{take_at, drop_at}
 use native.Mathlib.Omega.{arith}
-use borrow.Author.Tests.{lt-ltb, le-ltb}
+use borrow.Author.Tests.{lt-ltb, le-ltb, ne_eqb}
 use Rattle.model.specs.Answer.{Answer, plan, refused, answer}
-use Rattle.model.specs.Outcome.{least_workspace, least_plan, searches, cleared, written, too_small, outcome}
+use Rattle.model.specs.Outcome.{least_workspace, least_plan, is_late, clears, cleared, written, too_small, outcome}
 
 -- ---- 1: too little memory, and nothing else is looked at
 
@@ -53,13 +53,33 @@ module _ (f w p : List ℕ) (h : least_workspace ≤ length w) (k : least_plan �
   unfolding written
   plan_first ws e = outcome_plan ∙ ap (λ (a : Answer). written a p) e
 
-  pub not_searched_as_found : searches f ≡ false → (outcome f w p).workspace ≡ w
+  pub kept_as_found : clears (answer f) ≡ false → (outcome f w p).workspace ≡ w
   unfolding outcome
-  not_searched_as_found e = rw (enough_is w p h k, e)
+  kept_as_found e = rw (enough_is w p h k, e)
 
-  pub searched_cleared : searches f ≡ true → (outcome f w p).workspace ≡ cleared least_workspace w
+  pub first_cleared : clears (answer f) ≡ true → (outcome f w p).workspace ≡ cleared least_workspace w
   unfolding outcome
-  searched_cleared e = rw (enough_is w p h k, e)
+  first_cleared e = rw (enough_is w p h k, e)
+
+  -- a refusal whose place is not after 14's leaves the workspace as found; 15, 16 and 17 clear it
+  pub early_as_found : (n : ℕ) → answer f ≡ refused n → is_late n ≡ false → (outcome f w p).workspace ≡ w
+  unfolding clears
+  early_as_found n e late = kept_as_found (ap clears e ∙ late)
+
+  pub late_cleared : (n : ℕ) → (n ≡ 15) ⊎ ((n ≡ 16) ⊎ (n ≡ 17)) → answer f ≡ refused n → (outcome f w p).workspace ≡ cleared least_workspace w
+  unfolding clears is_late
+  late_cleared n (inl i) e = first_cleared (ap clears e ∙ ap is_late i)
+  late_cleared n (inr (inl i)) e = first_cleared (ap clears e ∙ ap is_late i)
+  late_cleared n (inr (inr i)) e = first_cleared (ap clears e ∙ ap is_late i)
+
+  -- a plan of no sheets leaves it as found, one with a sheet clears it
+  pub empty_as_found : (rest : List ℕ) → answer f ≡ plan (0 ∷ rest) → (outcome f w p).workspace ≡ w
+  unfolding clears
+  empty_as_found rest e = kept_as_found (ap clears e)
+
+  pub sheets_cleared : (sheets : ℕ) (rest : List ℕ) → answer f ≡ plan (suc sheets ∷ rest) → (outcome f w p).workspace ≡ cleared least_workspace w
+  unfolding clears
+  sheets_cleared sheets rest e = first_cleared (ap clears e ∙ rw (ne_eqb (suc sheets) 0 (λ q. omega (arith, q))) refl)
 
 -- ---- the first n words zero, the rest as found
 

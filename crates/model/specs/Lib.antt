@@ -22,3 +22,4 @@ pub mod Evaluate
 pub mod FileOf
 pub mod Stars
 pub mod Plans
+pub mod Endings

@@ -1,9 +1,5 @@
 -- What a call of the entry answers and leaves: refusal 1, and the rules of the lent memories, over the file and the two lent memories.
-use Rattle.std.specs.Prelude.{ℕ, Bool, not, ◌&&◌, ◌||◌, List, ◌++◌, ltb, length, drop, replicate, if◌then◌else◌}
-use Rattle.lists.specs.Base.{is_empty, is_some}
-use Rattle.model.specs.Project.{project_of}
-use Rattle.model.specs.Refusal.{file_refusal}
-use Rattle.model.specs.Expand.{expand_project}
+use Rattle.std.specs.Prelude.{ℕ, Bool, not, ◌||◌, List, ◌++◌, ltb, eqb, length, get_or, drop, replicate, if◌then◌else◌}
 use Rattle.model.specs.Answer.{Answer, plan, refused, answer}
 
 -- the least lent memory, in u32 words
@@ -19,9 +15,14 @@ pub record Outcome : Type 0 where
   pub workspace : List ℕ
   pub plan : List ℕ
 
--- whether the answer is one of those after 14's place and not an empty plan
-unfoldable pub searches : List ℕ → Bool
-searches file = not (is_some (file_refusal file)) && not (is_empty (expand_project (project_of file)).cuts)
+-- the refusals whose place is after 14's: of the prefilter, and at the end of the search
+unfoldable pub is_late : ℕ → Bool
+is_late n = eqb n 15 || eqb n 16 || eqb n 17
+
+-- whether an ending leaves the workspace's first words zero: a late refusal, or a plan with a sheet
+unfoldable pub clears : Answer → Bool
+clears (plan words) = not (eqb (get_or words 0 0) 0)
+clears (refused n) = is_late n
 
 -- the first n words zero, the rest as found
 unfoldable pub cleared : ℕ → List ℕ → List ℕ
@@ -40,6 +41,6 @@ outcome file workspace memory =
     if too_small workspace memory then record { answer = refused 1; workspace = workspace; plan = memory }
     else record {
       answer = answer file;
-      workspace = if searches file then cleared least_workspace workspace else workspace;
+      workspace = if clears (answer file) then cleared least_workspace workspace else workspace;
       plan = written (answer file) memory;
     }

@@ -22,8 +22,8 @@ use Rattle.model.specs.Search.{SearchNumbers, search_numbers, heuristic_variants
 use Rattle.model.specs.Plan.{plan_words}
 use Rattle.model.specs.Answer.{plan, refused, answer, answer_with, optimized, prefilter, solution, searched}
 use Rattle.model.specs.Answer.{Answer as Answered}
-use Rattle.model.specs.Outcome.{Outcome, least_workspace, least_plan, searches, too_small, cleared, outcome}
-use Rattle.model.proofs.Memory.{outcome_answer, refusal_untouched, plan_first, not_searched_as_found, searched_cleared}
+use Rattle.model.specs.Outcome.{Outcome, least_workspace, least_plan, too_small, cleared, outcome}
+use Rattle.model.proofs.Memory.{outcome_answer, refusal_untouched, plan_first, kept_as_found, first_cleared}
 use Rattle.trust.specs.Trusted.{Trusted}
 use Rattle.trust.proofs.PopulationSize.{source_within}
 use Rattle.model.specs.declared.OptimizerEffort.{OptimizerEffort}
@@ -35,7 +35,8 @@ use Rattle.std.specs.Prelude.{Result, Ok, Err}
 use Rattle.project.specs.declared.Refusal.{Refusal}
 use Rattle.project.specs.Refusals.{refusal_number}
 use Rattle.optimizer.specs.Promise.{number_of, number_of_answer, Ends, Promise}
-use Rattle.optimizer.proofs.Numbers.{zero_trusted}
+use Rattle.trust.proofs.Cleared.{file_kept, empty_kept, search_clears}
+use Rattle.optimizer.proofs.Numbers.{zero_trusted, late_impossible}
 
 -- a plan as the definition says can be trusted
 promised : {f w p w' p' : List ℕ} {n : ℕ} → n ≡ number_of_answer (outcome f w p).answer → p' ≡ (outcome f w p).plan → w' ≡ (outcome f w p).workspace → Promise f w p n w' p'
@@ -45,6 +46,7 @@ promised {f} {w} {p} {w'} {p'} {n} a q u =
       plan = q;
       workspace = u;
       trusted = λ e. subst (Trusted f) (sym q) (zero_trusted f w p (sym a ∙ e));
+      impossible = λ which words. late_impossible f w p words n which a;
     }
 
 -- ---- too little memory
@@ -81,12 +83,8 @@ module _ (f w p : List ℕ) (h : least_workspace ≤ length w) (k : least_plan �
   unfolding answer answer_with
   refused_file n e = rw (e, answer_with)
 
-  not_searched : (n : ℕ) → file_refusal f ≡ some n → searches f ≡ false
-  unfolding searches
-  not_searched n e = rw e
-
   pub end_file : (n : ℕ) → file_refusal f ≡ some n → Promise f w p n w p
-  end_file n e = refusal n w (refused_file n e) (sym (not_searched_as_found f w p h k (not_searched n e)))
+  end_file n e = refusal n w (refused_file n e) (sym (kept_as_found f w p h k (file_kept f n e)))
 
   -- ---- the file passes
 
@@ -103,9 +101,9 @@ module _ (f w p : List ℕ) (h : least_workspace ≤ length w) (k : least_plan �
     empty_words = plan_words (layout_of (project_of f).layout) one []
 
     pub end_empty : inst.cuts ≡ [] → Promise f w p 0 w (empty_words ++ drop (length empty_words) p)
-    unfolding optimized searches
+    unfolding optimized
     end_empty e =
-        planned empty_words w (passed_answer ∙ none_asked) (sym (not_searched_as_found f w p h k (rw (passed, e))))
+        planned empty_words w (passed_answer ∙ none_asked) (sym (kept_as_found f w p h k (empty_kept f passed e)))
       where
         none_asked : optimized heuristic_variants (project_of f) inst ≡ plan empty_words
         none_asked = rw e
@@ -116,14 +114,10 @@ module _ (f w p : List ℕ) (h : least_workspace ≤ length w) (k : least_plan �
       unfolding optimized
       search_answer = passed_answer ∙ rw some_cut
 
-      is_searched : searches f ≡ true
-      unfolding searches
-      is_searched = rw (passed, some_cut)
-
       -- what the search left in the words that are cleared does not matter
       same_cleared : (v : List ℕ) → drop least_workspace v ≡ drop least_workspace w → cleared least_workspace v ≡ (outcome f w p).workspace
       unfolding cleared
-      same_cleared v e = ap (λ (l : List ℕ). replicate least_workspace 0 ++ l) e ∙ sym (searched_cleared f w p h k is_searched)
+      same_cleared v e = ap (λ (l : List ℕ). replicate least_workspace 0 ++ l) e ∙ sym (first_cleared f w p h k (search_clears f passed some_cut))
 
       pub end_refused : (n : ℕ) (v : List ℕ) → searched heuristic_variants LayoutKind.Guillotine inst (search_numbers (effort_of (project_of f).effort)) ≡ refused n
           → drop least_workspace v ≡ drop least_workspace w → Promise f w p n (cleared least_workspace v) p

@@ -1,5 +1,5 @@
--- The entry's one promise: its answer and each lent word afterwards are the definition's, and a plan can be trusted.
-use Rattle.std.specs.Prelude.{ℕ, Result, Ok, Err, ◌≡◌, List, ◌++◌, length, drop}
+-- The entry's one promise: its answer and each lent word afterwards are the definition's, a plan can be trusted, and 15 and 16 say that there is none.
+use Rattle.std.specs.Prelude.{ℕ, ◌⊎◌, Result, Ok, Err, ◌≡◌, List, ◌++◌, length, drop}
 use Rattle.model.specs.declared.LayoutKind.{LayoutKind}
 use Rattle.model.specs.declared.OptimizerEffort.{OptimizerEffort}
 use Rattle.model.specs.Expand.{ProblemInstance}
@@ -7,6 +7,7 @@ use Rattle.model.specs.Search.{search_numbers, heuristic_variants}
 use Rattle.model.specs.Answer.{plan, refused, searched}
 use Rattle.model.specs.Answer.{Answer as Answered}
 use Rattle.model.specs.Outcome.{least_workspace, outcome}
+use Rattle.trust.specs.PieceRules.{PieceRules}
 use Rattle.trust.specs.Trusted.{Trusted}
 use Rattle.project.specs.declared.Refusal.{Refusal}
 use Rattle.project.specs.Refusals.{refusal_number}
@@ -40,7 +41,9 @@ pub record Promise (file words memory : List ℕ) (number : ℕ) (words_after me
   pub answer : number ≡ number_of_answer (outcome file words memory).answer
   -- the plan's words, then the old values; untouched on a refusal
   pub plan : memory_after ≡ (outcome file words memory).plan
-  -- as found, or its first 16,384 words zero and the rest as found
+  -- after 15, 16, 17 or a plan with a sheet its first 16,384 words are zero and the rest as found; else all are as found
   pub workspace : words_after ≡ (outcome file words memory).workspace
   -- a plan that is answered can be trusted
   pub trusted : number ≡ 0 → Trusted file memory_after
+  -- and where the answer is 15 or 16 there is no plan: no words obey the rules of pieces
+  pub impossible : (number ≡ 15) ⊎ (number ≡ 16) → (words : List ℕ) → PieceRules file words → ⊥

@@ -41,6 +41,7 @@ pub mod Fractions
 pub mod FitnessRange
 pub mod Comparisons
 pub mod SourceSort
+pub mod Sentences
 pub mod Scores
 pub mod FirstChoice
 pub mod PlanFitness
@@ -55,6 +56,8 @@ pub mod Once
 pub mod PlanPieces
 pub mod PlanGuide
 pub mod PlanTrusted
+pub mod Numbers
+pub mod Cleared
 pub mod NoWords
 pub mod NoPlan
 pub mod Refuted

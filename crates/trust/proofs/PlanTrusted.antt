@@ -25,7 +25,7 @@ use Rattle.model.specs.Search.{heuristic_variants}
 use Rattle.model.specs.Plan.{plan_words}
 use Rattle.model.specs.Account.{account_from}
 use Rattle.model.specs.Answer.{plan, refused, answer, answer_with, makings}
-use Rattle.model.specs.Outcome.{Outcome, least_workspace, searches, cleared, written, too_small, outcome}
+use Rattle.model.specs.Outcome.{Outcome, least_workspace, clears, cleared, written, too_small, outcome}
 use Rattle.lists.proofs.Perm.{all_map, all_both, all_right, in_all}
 use Rattle.lists.proofs.Every.{map_all, pairs_each}
 use Rattle.trust.specs.Words.{PieceIn, sheets_in}
@@ -173,7 +173,7 @@ trusted_outcome file workspace memory words e = go (too_small workspace memory) 
   where
     rest : Bool → Outcome
     rest b = if b then record { answer = refused 1; workspace = workspace; plan = memory }
-        else record { answer = answer file; workspace = if searches file then cleared least_workspace workspace else workspace; plan = written (answer file) memory }
+        else record { answer = answer file; workspace = if clears (answer file) then cleared least_workspace workspace else workspace; plan = written (answer file) memory }
 
     go : (b : Bool) → (rest b).answer ≡ plan words → Trusted file (rest b).plan
     go true h = absurd (not_refused 1 words h)

@@ -5,13 +5,15 @@ use mathlib.Core.Path.{◌≡◌, refl}
 use mathlib.Core.Bool.{true, false, true≢false}
 use borrow.Author.Tests.{eqb-false}
 use mathlib.Core.List.{List, [], ◌∷◌, ◌++◌, map}
-use lib.ListN.{set, take}
+use lib.ListN.{set, take, drop}
+use Rattle.model.specs.declared.Rect.{Rect}
+use Rattle.model.specs.Types.{rect}
 use Rattle.model.specs.Answer.{Answer, plan, refused, answer}
 use Rattle.model.specs.Evaluate.{evaluate}
 use Rattle.model.specs.FileOf.{file, record_bytes}
 use Rattle.model.specs.Stars.{star4}
 use Rattle.lists.proofs.Perm.{perm_refl, sum_perm}
-use Rattle.trust.specs.Words.{groups, key_at, rect_at, piece_in, waste_in, node_in, node_key, sheet_in, sheets_in, pieces_in, SheetIn}
+use Rattle.trust.specs.Words.{groups, key_at, rect_at, piece_in, waste_in, node_in, node_key, sheet_in, sheets_in, pieces_in, NodeIn, SheetIn}
 use Rattle.trust.specs.InLayout.{piece_codes, node_codes, subtrees, one_tree, sheet_codes, body_in_layout, bodies_from, in_layout, InLayout}
 use Rattle.trust.specs.PieceRules.{keys_in, lies_once, uses_board, of_its_size, on_rack, lies_as, is_fit, is_panel, has_fit, inside_board, kerf_apart, pairwise, PieceRules}
 use Rattle.trust.specs.GuideRules.{merged_from, piece_leaves_in, waste_leaves_in, sits_in, part_before, part_after, divides, fills_parts, use_in, saw_in}
@@ -99,6 +101,14 @@ layout_breaks_lem = refl
 layout_ends : (in_layout (take 52 (planned star1)) ≡ false) × (in_layout (planned star1 ++ (9 ∷ 9 ∷ [])) ≡ true)
 unfolding judge star1 planned words_of
 layout_ends = (refl, refl)
+
+-- two bodies with a word between them, where the second one's entry says so
+gap : List ℕ
+gap = set (take 35 (planned two_boards) ++ (0 ∷ drop 35 (planned two_boards))) 6 36
+
+bodies_apart : in_layout gap ≡ false
+unfolding judge planned words_of two_boards gap
+bodies_apart = refl
 
 -- ---- the piece rules
 
@@ -204,3 +214,57 @@ other_use h = eqb-false _ _ refl h.made.0.guide.own_use
 other_saw : Trusted star1 (set (planned star1) 12 0) → ⊥
 unfolding judge planned words_of star1
 other_saw h = eqb-false _ _ refl h.made.0.guide.own_saw
+
+-- ---- parts
+
+waste_leaf : Rect → NodeIn
+waste_leaf r = record { kind = 2; first = 0; second = 0; third = 0; rect = r }
+
+piece_leaf : ℕ → Rect → NodeIn
+piece_leaf id r = record { kind = 1; first = id; second = 0; third = 0; rect = r }
+
+cut_node : ℕ → ℕ → Rect → NodeIn
+cut_node orientation offset r = record { kind = 0; first = orientation; second = offset; third = 3; rect = r }
+
+-- a leaf a kerf short of its part along both sides, and two kerfs along one
+kerf_short : fills_parts 3 (rect 0 0 20 30 ∷ []) (waste_leaf (rect 0 0 17 27) ∷ []) ≡ true
+unfolding judge waste_leaf
+kerf_short = refl
+
+two_kerfs_short : map (λ r. fills_parts 3 (rect 0 0 20 30 ∷ []) (waste_leaf r ∷ [])) (rect 0 0 14 30 ∷ rect 0 0 20 24 ∷ []) ≡ false ∷ false ∷ []
+unfolding judge waste_leaf
+two_kerfs_short = refl
+
+-- Four panels on a board of 100 × 26, round a hole, so that no cut from edge to edge separates them; and cuts that reach out of what they cut, which
+-- leave waste of no width.
+round_a_hole : List Rect
+round_a_hole = rect 0 0 20 6 ∷ rect 0 9 6 17 ∷ rect 9 16 20 10 ∷ rect 23 0 77 9 ∷ []
+
+left_over : List Rect
+left_over =
+    rect 9 9 11 4 ∷ rect 32 16 0 10 ∷ rect 23 12 65 1 ∷ rect 91 12 0 2 ∷ rect 94 12 0 5 ∷ rect 97 12 0 8 ∷ rect 100 12 0 11 ∷ []
+
+reaching : List NodeIn
+reaching =
+    cut_node 1 20 (rect 0 0 100 26)
+    ∷ cut_node 0 6 (rect 0 0 20 26) ∷ piece_leaf 7 (rect 0 0 20 6)
+    ∷ cut_node 1 6 (rect 0 9 20 17) ∷ piece_leaf 8 (rect 0 9 6 17)
+    ∷ cut_node 0 4 (rect 9 9 11 17) ∷ waste_leaf (rect 9 9 11 4)
+    ∷ cut_node 1 20 (rect 9 16 11 10) ∷ piece_leaf 9 (rect 9 16 20 10) ∷ waste_leaf (rect 32 16 0 10)
+    ∷ cut_node 0 9 (rect 23 0 77 26) ∷ piece_leaf 10 (rect 23 0 77 9)
+    ∷ cut_node 1 74 (rect 23 12 74 11) ∷ cut_node 1 71 (rect 23 12 71 8) ∷ cut_node 1 68 (rect 23 12 68 5) ∷ cut_node 1 65 (rect 23 12 65 2)
+    ∷ waste_leaf (rect 23 12 65 1) ∷ waste_leaf (rect 91 12 0 2) ∷ waste_leaf (rect 94 12 0 5) ∷ waste_leaf (rect 97 12 0 8) ∷ waste_leaf (rect 100 12 0 11)
+    ∷ []
+
+-- they are one tree, its leaves are the panels and the waste, and these lie a kerf apart
+reaching_leaves : (one_tree reaching ≡ true)
+    × (map (λ e. e.0) (piece_leaves_in reaching) ≡ round_a_hole)
+    × (waste_leaves_in reaching ≡ left_over)
+    × (pairwise (kerf_apart 3) (round_a_hole ++ left_over) ≡ true)
+unfolding judge reaching round_a_hole left_over cut_node piece_leaf waste_leaf
+reaching_leaves = (refl, refl, refl, refl)
+
+-- and no guide
+no_guide_reaches : fills_parts 3 (rect 0 0 100 26 ∷ []) reaching ≡ false
+unfolding judge reaching cut_node piece_leaf waste_leaf
+no_guide_reaches = refl
