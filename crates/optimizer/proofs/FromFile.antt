@@ -14,7 +14,7 @@ use Rattle.project.specs.Problem.{Sound}
 use Rattle.project.specs.Checks.{Checked}
 
 -- the bytes of a file
-all_bytes : (l : List ℕ) → ((i : ℕ) → get_or l i 0 < 256) → All Byte l
+pub all_bytes : (l : List ℕ) → ((i : ℕ) → get_or l i 0 < 256) → All Byte l
 all_bytes [] h = tt
 all_bytes (b ∷ l) h = (h 0, all_bytes l (λ i. h (suc i)))
 

@@ -1,14 +1,13 @@
 -- A refusal is never numbered 0, so that number is free for a plan; and what 15 and 16 say of the file.
 use Rattle.std.specs.Prelude.{if◌then◌else◌}
-use Prim.Native.Nat.{ℕ, zero, suc}
+use Prim.Native.Nat.{ℕ}
 use native.Mathlib.Omega.{arith}
 use mathlib.Core.Path.{◌≡◌, refl, sym, ap, subst}
 use mathlib.Core.Logic.{◌⊎◌, inl, inr}
-use mathlib.Core.Bool.{Bool, true, false, not, false≢true}
+use mathlib.Core.Bool.{Bool, true, false, not}
 use mathlib.Core.List.{List, []}
 use mathlib.Core.Option.{Option, none, some}
-use lib.Dec.{T, eqb}
-use borrow.Author.Tests.{ne_eqb}
+use lib.Dec.{T}
 use Rattle.lists.specs.Base.{is_empty}
 use Rattle.model.specs.declared.LayoutKind.{LayoutKind}
 use Rattle.model.specs.Types.{layout_of, effort_of}
@@ -25,29 +24,21 @@ use Rattle.model.specs.Outcome.{Outcome, least_workspace, is_late, clears, clear
 use Rattle.trust.specs.PieceRules.{PieceRules}
 use Rattle.trust.specs.Trusted.{Trusted}
 use Rattle.trust.proofs.Truth.{and_split}
-use Rattle.trust.proofs.Numbers.{file_early}
-use Rattle.trust.proofs.Cleared.{late_prefilter}
+use Rattle.trust.proofs.Numbers.{two_digits, file_early}
+use Rattle.trust.proofs.Cleared.{late_digits}
 use Rattle.trust.proofs.PlanTrusted.{trusted_outcome}
 use Rattle.trust.proofs.NoPlan.{no_plan_outcome}
 use Rattle.optimizer.specs.Promise.{number_of_answer}
 
--- an answer that is refused is not numbered 0
+-- a refusal's number has one or two digits and is not 0
 abbrev pub Numbered : Answered → Type 0
 Numbered (plan words) = Unit {0}
-Numbered (refused n) = T (not (eqb n 0))
+Numbered (refused n) = T (two_digits n)
 
 -- ---- every answer
 
-file_number : (f : List ℕ) (n : ℕ) → file_refusal f ≡ some n → T (not (eqb n 0))
-file_number f n e = (and_split (not (eqb n 0)) (not (is_late n)) (file_early f n e)).0
-
-prefilter_number : (inst : ProblemInstance) (n : ℕ) → prefilter inst ≡ some n → T (not (eqb n 0))
-unfolding is_late
-prefilter_number inst n e = go n (late_prefilter inst n e)
-  where
-    go : (n : ℕ) → is_late n ≡ true → T (not (eqb n 0))
-    go zero h = absurd (false≢true h)
-    go (suc n) h = subst (λ (b : Bool). T (not b)) (sym (ne_eqb (suc n) 0 (λ k. omega (arith, k)))) tt
+file_number : (f : List ℕ) (n : ℕ) → file_refusal f ≡ some n → T (two_digits n)
+file_number f n e = (and_split (two_digits n) (not (is_late n)) (file_early f n e)).0
 
 searched_numbered : (layout : LayoutKind) (inst : ProblemInstance) (n : SearchNumbers) → Numbered (searched heuristic_variants layout inst n)
 unfolding searched solution
@@ -55,7 +46,7 @@ searched_numbered layout inst n = go (prefilter inst) refl (winner heuristic_var
   where
     go : (q : Option ℕ) → prefilter inst ≡ q → (o : Option Candidate)
         → Numbered (elim q [ some k ↦ refused k | none ↦ elim o [ none ↦ refused 17 | some c ↦ solution layout c ] ])
-    go (some k) e o = prefilter_number inst k e
+    go (some k) e o = late_digits inst k e
     go none e none = tt
     go none e (some c) = tt
 
@@ -75,7 +66,7 @@ answer_numbered f = go (file_refusal f) refl
     go (some k) e = file_number f k e
     go none e = optimized_numbered (project_of f) (expand_project (project_of f))
 
-outcome_numbered : (f w p : List ℕ) → Numbered (outcome f w p).answer
+pub outcome_numbered : (f w p : List ℕ) → Numbered (outcome f w p).answer
 unfolding outcome
 outcome_numbered f w p = go (too_small w p)
   where
@@ -91,7 +82,7 @@ outcome_numbered f w p = go (too_small w p)
 
 zero_planned : (a : Answered) → Numbered a → number_of_answer a ≡ 0 → (words : List ℕ) × (a ≡ plan words)
 zero_planned (plan words) h e = (words, refl)
-zero_planned (refused n) h e = absurd (subst (λ (m : ℕ). T (not (eqb m 0))) e h)
+zero_planned (refused n) h e = absurd (subst (λ (m : ℕ). T (two_digits m)) e h)
 
 pub zero_trusted : (f w p : List ℕ) → number_of_answer (outcome f w p).answer ≡ 0 → Trusted f (outcome f w p).plan
 zero_trusted f w p e =

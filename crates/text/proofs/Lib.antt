@@ -1,1 +1,3 @@
 mod Texts
+mod Longest
+mod Whole

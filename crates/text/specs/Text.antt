@@ -19,3 +19,7 @@ planned file = outcome file (replicate least_workspace 0) (replicate least_plan 
 
 unfoldable pub printed : List ℕ → List ℕ
 printed file = answer_text (number_of_answer (planned file).answer) (planned file).plan
+
+-- no file has a longer text: a plan of 64 sheets with 64 pieces
+abbrev pub most_text : ℕ
+most_text = 45_371

@@ -1,10 +1,10 @@
 // The text of the planner's answer to a project file, as `cutplan` prints it: its plan, or the number of its refusal.
 #![tactic(auto)]
 
-ghost use Rattle.std.specs.Prelude.{◌≡◌};
+ghost use Rattle.std.specs.Prelude.{◌≡◌, ◌≤◌, []};
 ghost use Rattle.project.specs.Refusals.{refusal_number};
 ghost use Rattle.words.specs.Appending.{with_bytes};
-ghost use Rattle.text.specs.Text.{refusal_text, printed};
+ghost use Rattle.text.specs.Text.{refusal_text, printed, most_text};
 
 mod plan_text; // The text of a plan's words, as the program `cutplan` prints it
 
@@ -19,9 +19,10 @@ fn put_refusal<const N: usize>(refusal: Refusal, text: &mut Buffer<N>)
     text.push(b'\n');
 }
 
-// The text of the answer to a file, as far as there is room.
+// The text of the answer to a file, as far as there is room. An empty buffer with room for the longest text takes it whole.
 pub fn put_answer<const N: usize>(file: &[u8], text: &mut Buffer<N>)
-    ensures { text.new ≡ with_bytes N text.old (printed file.now) }
+    ensures text { text.new ≡ with_bytes N text.old (printed file.now) }
+    ensures whole { most_text ≤ N → text.old ≡ [] → text.new ≡ printed file.now }
 {
     let mut workspace = [0u32; 16_384];
     let mut plan = [0u32; 4_500];

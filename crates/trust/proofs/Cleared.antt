@@ -4,12 +4,12 @@ use Prim.Native.Nat.{ℕ, suc}
 use native.Mathlib.Omega.{arith}
 use mathlib.Core.Path.{◌≡◌, refl, sym, ap, ◌∙◌, subst}
 use mathlib.Core.Logic.{inl, inr}
-use mathlib.Core.Bool.{Bool, true, false, not, ◌&&◌, ◌||◌, true≢false}
+use mathlib.Core.Bool.{Bool, true, false, not, ◌&&◌, ◌||◌, true≢false, false≢true}
 use mathlib.Core.List.{List, [], ◌∷◌, map}
 use mathlib.Core.Option.{Option, none, some, some-injective, none-ne-some, get_or}
 use lib.Dec.{T, eqb}
 use lib.ListN.{length}
-use borrow.Author.Tests.{ne_eqb}
+use borrow.Author.Tests.{ne_eqb, eqb-true}
 use Rattle.lists.specs.Base.{◌<|>◌, is_empty, is_some, concat_map}
 use Rattle.lists.specs.Elements.{Perm}
 use Rattle.model.specs.declared.BaselineGuillotineHeuristic.{BaselineGuillotineHeuristic}
@@ -30,7 +30,7 @@ use Rattle.lists.proofs.Perm.{length_perm}
 use Rattle.trust.specs.Proper.{placed_cuts}
 use Rattle.trust.proofs.Truth.{and_split}
 use Rattle.trust.proofs.Answer.{instance_of, FromWinner, not_refused, plan_from_winner}
-use Rattle.trust.proofs.Numbers.{EarlyNumber, file_early}
+use Rattle.trust.proofs.Numbers.{two_digits, EarlyNumber, file_early}
 
 -- ---- a file that a check refuses, and one without panels
 
@@ -39,7 +39,7 @@ not_late true h = absurd h
 not_late false h = refl
 
 early : (n : ℕ) → EarlyNumber n → is_late n ≡ false
-early n h = not_late (is_late n) (and_split (not (eqb n 0)) (not (is_late n)) h).1
+early n h = not_late (is_late n) (and_split (two_digits n) (not (is_late n)) h).1
 
 pub file_kept : (f : List ℕ) (n : ℕ) → file_refusal f ≡ some n → clears (answer f) ≡ false
 unfolding answer answer_with clears
@@ -59,6 +59,22 @@ late_prefilter inst k e = go _ _ e
     go true b h = ap is_late (sym (some-injective 15 k h))
     go false true h = ap is_late (sym (some-injective 16 k h))
     go false false h = absurd (none-ne-some k h)
+
+late_two_digits : (k : ℕ) → is_late k ≡ true → T (two_digits k)
+unfolding is_late
+late_two_digits k e = go (eqb k 15) (eqb k 16) (eqb k 17) refl refl refl e
+  where
+    digits : (n : ℕ) → T (two_digits n) → k ≡ n → T (two_digits k)
+    digits n h f = subst (λ (m : ℕ). T (two_digits m)) (sym f) h
+
+    go : (a b c : Bool) → eqb k 15 ≡ a → eqb k 16 ≡ b → eqb k 17 ≡ c → (a || b || c) ≡ true → T (two_digits k)
+    go true b c f g h i = digits 15 tt (eqb-true k 15 f)
+    go false true c f g h i = digits 16 tt (eqb-true k 16 g)
+    go false false true f g h i = digits 17 tt (eqb-true k 17 h)
+    go false false false f g h i = absurd (false≢true i)
+
+pub late_digits : (inst : ProblemInstance) (k : ℕ) → prefilter inst ≡ some k → T (two_digits k)
+late_digits inst k e = late_two_digits k (late_prefilter inst k e)
 
 number_in : Answer → ℕ
 number_in (plan words) = 0

@@ -1,11 +1,11 @@
--- The numbers of a file's refusals: none is 0, and none is one of those whose place is after 14's.
+-- The numbers of a file's refusals: one or two digits and not 0, and none is one of those whose place is after 14's.
 use Rattle.std.specs.Prelude.{if◌then◌else◌}
 use Prim.Native.Nat.{ℕ, ◌+◌}
 use mathlib.Core.Path.{◌≡◌, subst}
 use mathlib.Core.Bool.{Bool, true, false, not, ◌&&◌}
 use mathlib.Core.List.{List, [], ◌∷◌, ◌++◌}
 use mathlib.Core.Option.{Option, none, some, some-injective, none-ne-some}
-use lib.Dec.{T, eqb}
+use lib.Dec.{T, ltb}
 use Rattle.lists.specs.Base.{◌<|>◌}
 use Rattle.lists.specs.Elements.{All}
 use Rattle.model.specs.Project.{Record, Project, project_of, well_formed}
@@ -13,8 +13,11 @@ use Rattle.model.specs.Refusal.{Check, RecordRule, first_that_applies, stock_rul
 use Rattle.model.specs.Outcome.{is_late}
 use Rattle.lists.proofs.Perm.{all_append}
 
+abbrev pub two_digits : ℕ → Bool
+two_digits n = ltb 0 n && ltb n 100
+
 abbrev pub EarlyNumber : ℕ → Type 0
-EarlyNumber n = T (not (eqb n 0) && not (is_late n))
+EarlyNumber n = T (two_digits n && not (is_late n))
 
 abbrev Early : Check → Type 0
 Early c = EarlyNumber c.0
