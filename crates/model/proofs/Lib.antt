@@ -1,3 +1,4 @@
+pub mod Sentences
 pub mod Memory
 pub mod Stars
 pub mod Plans

@@ -93,7 +93,7 @@ reinsert_unused_first_fit kerf h c =
 unfoldable pub worst_bin : List GuillotineSheet → Option (ℕ × GuillotineSheet)
 worst_bin bins = first_best (λ a b. is_less (compare_float (sheet_fitness a.1) (sheet_fitness b.1))) (enumerate bins)
 
--- compact_worst_bin_for_repair: its bin taken apart, if there are two or more
+-- compact_worst_bin_for_repair: its bin taken apart, if there are two or more. That the removed cuts go last, a row of Plans turns on
 unfoldable pub compacted : List CutInstance → Candidate → Option Candidate
 compacted catalog c =
     worst_bin c.bins >>= λ w. cuts_for_keys catalog (sheet_keys w.1) >>= λ removed. some (record {

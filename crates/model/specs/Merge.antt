@@ -18,7 +18,7 @@ stacked kerf a b = rect a.x a.y a.width (a.length + kerf + b.length)
 abbrev pub joined : ℕ → Rect → Rect → Rect
 joined kerf a b = rect a.x a.y (a.width + kerf + b.width) a.length
 
--- merge_adjacent_rects
+-- merge_adjacent_rects: the two in either order (Sentences.merge_either, a row of Plans)
 unfoldable pub merge_adjacent_rects : ℕ → Rect → Rect → Option Rect
 merge_adjacent_rects kerf left right =
     if below kerf left right then some (stacked kerf left right)

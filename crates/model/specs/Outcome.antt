@@ -19,7 +19,7 @@ pub record Outcome : Type 0 where
 unfoldable pub is_late : ℕ → Bool
 is_late n = eqb n 15 || eqb n 16 || eqb n 17
 
--- whether an ending leaves the workspace's first words zero: a late refusal, or a plan with a sheet
+-- whether an ending leaves the workspace's first words zero: a late refusal, or a plan with a sheet (proofs/Memory and rows of Endings, for each kind of answer)
 unfoldable pub clears : Answer → Bool
 clears (plan words) = not (eqb (get_or words 0 0) 0)
 clears (refused n) = is_late n

@@ -43,7 +43,8 @@ bad_codes p = ltb 2 p.pattern || ltb 1 p.flag || not (eqb p.spare 0)
 abbrev pub unlimited : Record → Bool
 unlimited p = eqb p.flag 0
 
--- a record's checks, given the ids of the records of its kind before it and the sum of their quantities
+-- a record's checks, given the ids of the records of its kind before it and the sum of their quantities; their order is in Sentences too (stock_order, cut_order),
+-- and projects 38 and 42 of the corpus turn on it
 abbrev pub RecordRule : Type 0
 RecordRule = List ℕ → ℕ → Record → List Check
 
@@ -72,7 +73,7 @@ unfoldable pub record_checks : RecordRule → List ℕ → ℕ → List Record �
 record_checks rule seen count [] = []
 record_checks rule seen count (p ∷ ps) = rule seen count p ++ record_checks rule (p.id ∷ seen) (count + p.quantity) ps
 
--- ---- after all records
+-- ---- after all records (in this order: Sentences.whole_order, project 46 of the corpus)
 
 abbrev pub total_quantity : List Record → ℕ
 total_quantity ps = sum (map (λ p. p.quantity) ps)

@@ -29,7 +29,7 @@ search_numbers OptimizerEffort.Thorough = record { variants = true; shuffles = 2
 abbrev pub heuristic : GuillotineRectChoice → GuillotineSplitHeuristic → RotationPreference → BaselineGuillotineHeuristic
 heuristic c s r = record { rect_choice = c; split = s; rotation = r }
 
--- heuristic_variants: the source's five rows. The search takes the rows as an argument
+-- heuristic_variants: the source's five rows, in an order that three rows of Plans turn on. The search takes the rows as an argument
 unfoldable pub heuristic_variants : List BaselineGuillotineHeuristic
 heuristic_variants =
     heuristic GuillotineRectChoice.Area GuillotineSplitHeuristic.Horizontal RotationPreference.PreferUpright
@@ -88,7 +88,7 @@ initial_population rows inst n = concat_map (λ seed. to_list (candidate_from_se
 unfoldable pub best_donor_bin : Candidate → Option GuillotineSheet
 best_donor_bin donor = first_best (λ a b. is_greater (compare_float (sheet_fitness a) (sheet_fitness b))) donor.bins
 
--- full_stock_instances
+-- full_stock_instances: the sheets' boards first, in an order that a row of Plans turns on
 unfoldable pub full_stock : Candidate → List StockInstance
 full_stock c = map (λ b. b.stock) c.bins ++ c.available_stock
 
@@ -131,7 +131,7 @@ compact_population inst population = map (compact_worst_bin inst.cuts) populatio
 abbrev pub best_first : ProblemInstance → Candidate → Candidate → Ordering
 best_first inst left right = compare_optional_score (score inst.cuts right) (score inst.cuts left)
 
--- survival_generation: the valid ones, best first, no more than the survivors
+-- survival_generation: the valid ones, best first, no more than the survivors (Sentences.survivors_many, a row of Plans)
 unfoldable pub survival_generation : ProblemInstance → ℕ → List Candidate → List Candidate
 survival_generation inst survivors population = take survivors (sort_by (best_first inst) (retain (is_valid inst.cuts) population))
 

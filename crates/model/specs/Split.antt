@@ -2,7 +2,7 @@
 use Rattle.std.specs.Prelude.{ℕ, ◌+◌, ◌-◌, ◌*◌, min, List, [], ◌∷◌, ◌++◌, leb, ltb, if◌then◌else◌}
 use Rattle.model.specs.Types.{GuillotineSplitHeuristic, Direction, Rect, rect}
 
--- split_direction
+-- split_direction: a square and a tie are cut horizontally (Sentences.square_horizontal, area_tie_horizontal; a row of Plans for each)
 unfoldable pub split_direction : Rect → Rect → GuillotineSplitHeuristic → Direction
 split_direction free placed GuillotineSplitHeuristic.Horizontal = Direction.Horizontal
 split_direction free placed GuillotineSplitHeuristic.LongerAxis =

@@ -41,7 +41,6 @@ pub mod Fractions
 pub mod FitnessRange
 pub mod Comparisons
 pub mod SourceSort
-pub mod Sentences
 pub mod Scores
 pub mod FirstChoice
 pub mod PlanFitness

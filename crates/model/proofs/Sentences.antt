@@ -1,13 +1,13 @@
--- Sentences of the source and of document 01 that a definition of one clause says, each as a law of its own.
+-- Sentences of the source and of the rules that a definition says in one clause, each as a law of its own.
 use Rattle.std.specs.Prelude.{if◌then◌else◌}
 use Prim.Native.Nat.{ℕ, ◌+◌, ◌-◌, ◌*◌, ◌≤◌, ◌<◌, min, compare, Ordering}
 use native.Mathlib.Nat.{le_of_eq}
 use native.Mathlib.Omega.{arith}
 use mathlib.Core.Path.{◌≡◌, refl, ap, ◌∙◌}
-use mathlib.Core.Bool.{Bool, true, false}
+use mathlib.Core.Bool.{Bool, true, false, ◌&&◌}
 use mathlib.Core.List.{List, [], ◌∷◌, map}
 use mathlib.Core.Option.{none, some}
-use lib.Dec.{T, eqb, leb, ltb}
+use lib.Dec.{T, eqb, leb, ltb, eqb→eq}
 use lib.ListN.{length, take, length-take}
 use borrow.Author.Tests.{le-leb, lt-ltb, le-ltb}
 use Rattle.lists.specs.Base.{is_less, then_with, lexicographic, retain, sort_by}
@@ -25,8 +25,6 @@ use Rattle.model.specs.Expand.{ProblemInstance}
 use Rattle.model.specs.Search.{best_first, survival_generation}
 use Rattle.lists.proofs.Perm.{length_perm, sort_by_perm}
 use Rattle.lists.proofs.Preorder.{compare_is}
-use Rattle.trust.specs.Sound.{Positive}
-use Rattle.trust.proofs.Geometry.{below_facts, beside_facts}
 
 -- ---- splits
 
@@ -112,14 +110,18 @@ exchanged false false true false m₁ m₂ m₃ m₄ f g = refl
 exchanged false false false true m₁ m₂ m₃ m₄ f g = refl
 exchanged false false false false m₁ m₂ m₃ m₄ f g = refl
 
+last_equal : (p : Bool) (m n : ℕ) → T (p && eqb m n) → m ≡ n
+last_equal true m n h = eqb→eq m n h
+last_equal false m n h = absurd h
+
 -- two rectangles merge whichever of them comes first
-pub merge_either : (kerf : ℕ) (a b : Rect) → Positive a → merge_adjacent_rects kerf a b ≡ merge_adjacent_rects kerf b a
+pub merge_either : (kerf : ℕ) (a b : Rect) → 0 < a.width → 0 < a.length → merge_adjacent_rects kerf a b ≡ merge_adjacent_rects kerf b a
 unfolding merge_adjacent_rects
-merge_either kerf a b p =
+merge_either kerf a b w l =
     exchanged (below kerf a b) (below kerf b a) (beside kerf a b) (beside kerf b a)
     (stacked kerf a b) (stacked kerf b a) (joined kerf a b) (joined kerf b a)
-    (λ h k. omega (arith, p.long, (below_facts kerf a b h).2, (below_facts kerf b a k).2))
-    (λ h k. omega (arith, p.wide, (beside_facts kerf a b h).2, (beside_facts kerf b a k).2))
+    (λ h k. omega (arith, l, last_equal (eqb a.x b.x && eqb a.width b.width) (a.y + a.length + kerf) b.y h, last_equal (eqb b.x a.x && eqb b.width a.width) (b.y + b.length + kerf) a.y k))
+    (λ h k. omega (arith, w, last_equal (eqb a.y b.y && eqb a.length b.length) (a.x + a.width + kerf) b.x h, last_equal (eqb b.y a.y && eqb b.length a.length) (b.x + b.width + kerf) a.x k))
 
 -- ---- the order of the checks
 
