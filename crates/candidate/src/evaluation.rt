@@ -5,15 +5,12 @@ ghost use Rattle.std.proofs.Math.Option.{some};
 ghost use Rattle.lists.specs.Base.{sum, range};
 ghost use Rattle.lists.specs.Elements.{All};
 ghost use Rattle.model.specs.Sheet.{GuillotineSheet};
-ghost use Rattle.model.specs.Candidate.{is_valid};
-ghost use Rattle.model.specs.Expand.{ProblemInstance};
-ghost use Rattle.trust.specs.Admitted.{Admitted};
 ghost use Rattle.candidate.specs.Scores.{score_of};
 ghost use Rattle.candidate.specs.Areas.{areas_of};
 ghost use Rattle.candidate.specs.Entries.{cut_of};
 ghost use Rattle.candidate.specs.Stands.{candidate_in, Stands, placed_words};
 ghost use Rattle.candidate.specs.OnSheets.{word_area, placed_on, Known, AreasOf, IsFirstBest, IsWorst, IsBestDonor, score_in};
-ghost use Rattle.candidate.specs.Keys.{repeats};
+ghost use Rattle.candidate.specs.Keys.{repeats, valid_words};
 
 use super::fitness::SheetAreas;
 use super::scores::CandidateScore;
@@ -119,8 +116,9 @@ pub fn placed_cuts(c: &Candidate) -> ArrayVec<u32, 64>
     cuts
 }
 
+// Of a candidate that stands the definition's `is_valid`: a law (`valid_words_is`).
 pub fn is_valid(c: &Candidate) -> bool
-    ensures { (inst : ProblemInstance) → Admitted inst → Stands inst [] c.now → result ≡ is_valid inst.cuts (candidate_in inst c.now) }
+    ensures { result ≡ valid_words c.now }
 {
     c.unused.is_empty() && !has_duplicate_placed_cut_keys(placed_cuts(c).as_slice())
 }
