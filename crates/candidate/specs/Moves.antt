@@ -1,13 +1,13 @@
 -- What a placement does to the words of a candidate.
 use Rattle.std.specs.Prelude.{ℕ, suc, ◌+◌, List, [], ◌∷◌, ◌++◌, map, leb, length, get_or, take, if◌then◌else◌}
-use Rattle.lists.specs.Base.{is_some, range, remove_at}
+use Rattle.lists.specs.Base.{is_some, range, remove_at, foldl}
 use Rattle.model.specs.declared.BaselineGuillotineHeuristic.{BaselineGuillotineHeuristic}
 use Rattle.model.specs.Sheet.{GuillotineSheet, Insertion, try_insert}
 use Rattle.model.specs.Expand.{ProblemInstance}
 use Rattle.words.specs.Inserted.{with_word_at}
 use Rattle.candidate.specs.declared.Candidate.{Candidate as Words}
 use Rattle.candidate.specs.Entries.{insertion_word}
-use Rattle.candidate.specs.Stands.{bin_in, placed_words}
+use Rattle.candidate.specs.Stands.{bin_in, placed_words, unused_numbers}
 use Rattle.project.specs.Problem.{cut_in}
 
 -- Candidate::new: every board available, nothing placed
@@ -54,3 +54,17 @@ unfoldable pub take_place : ℕ → Words → ℕ → ℕ → BaselineGuillotine
 take_place stock k j cut h =
     let placed = with_insertion k (insertion_word (get_or k.boards j 0) cut h) in
     if leb stock j then with_unused k cut else if leb k.sheets j then with_sheet placed j else placed
+
+-- place_cut_first_fit of words: the cut goes to the first board that takes it
+unfoldable pub with_cut : ProblemInstance → BaselineGuillotineHeuristic → Words → ℕ → Words
+with_cut inst h k cut = take_place (length inst.stock) k (first_fit_in inst k cut h) cut h
+
+-- ---- cuts one after the other
+
+-- place_cuts
+unfoldable pub with_cuts : ProblemInstance → BaselineGuillotineHeuristic → Words → List ℕ → Words
+with_cuts inst h k order = foldl (with_cut inst h) k order
+
+-- reinsert_unused_first_fit
+unfoldable pub reinserted : ProblemInstance → BaselineGuillotineHeuristic → Words → Words
+reinserted inst h k = with_cuts inst h (without_unused k) (unused_numbers k)

@@ -1,7 +1,7 @@
 -- The next cut of a candidate: what the search for its board needs, and what its placement leaves.
 use Prim.Native.Nat.{ℕ, ◌≤◌, ◌<◌}
 use native.Mathlib.Omega.{arith}
-use mathlib.Core.Path.{◌≡◌, sym, ap, ◌∙◌, subst}
+use mathlib.Core.Path.{◌≡◌, refl, sym, ap, ◌∙◌, subst}
 use mathlib.Core.List.{List, ◌∷◌}
 use mathlib.Core.Option.{some}
 use lib.ListN.{length, get_or, take}
@@ -17,7 +17,7 @@ use Rattle.lists.specs.Elements.{All}
 use Rattle.trust.specs.Admitted.{Ranged}
 use Rattle.project.specs.Problem.{Sound, board_in, cut_in}
 use Rattle.candidate.specs.declared.Candidate.{Candidate as Words}
-use Rattle.candidate.specs.Moves.{first_fit_in, take_place}
+use Rattle.candidate.specs.Moves.{first_fit_in, take_place, with_cut}
 use Rattle.candidate.specs.Stands.{Stands, making_in, bin_in, sheet_boards, available_boards, placed_words, unused_numbers}
 use Rattle.candidate.specs.Bins.{Other, rects_on, ShowsBin}
 use Rattle.candidate.proofs.Standing.{RebuiltOn, boards_split, boards_once_lem, boards_below, few_boards_lem, few_placed, next_known, available_new}
@@ -142,10 +142,12 @@ module _ (inst : ProblemInstance) (sound : Sound inst) (k : Words) (free : List 
         ∙ ap (λ (s : GuillotineSheet). s.free_rects) (sym e)
 
     pub places : PlacesCut inst h k cut after (take_place (length inst.stock) k j cut h)
+    unfolding with_cut
     places =
         let p = placed_with next.later next.stands in
         subst (λ (q : ℕ). PlacesCut inst h k cut after (take_place (length inst.stock) k q cut h)) (sym index_is)
         (record {
+          words = refl;
           is = p.is;
           stands = λ rest st. (placed_with rest st).stands;
           shown = record { sheets = all_map _ (ShowsBin inst (placed_words words_after) after) sheet_shown (sheet_boards words_after) p.sheets };
