@@ -39,7 +39,7 @@ use Rattle.candidate.proofs.Standing.{few_boards_lem, length_all_boards, length_
 use Rattle.candidate.specs.OnSheets.{no_bin, IsWorst}
 use Rattle.candidate.proofs.evaluation.Sheets.{BinAt, bin_at}
 use Rattle.candidate.proofs.variation.Sheets.{bin_count}
-use Rattle.candidate.specs.Compact.{off_board, put_back, apart, SameSheet, Compacted}
+use Rattle.candidate.specs.Compact.{off_board, put_back, apart, without_sheet, compacted_words, SameSheet, Compacted}
 
 -- ---- insertions on a board and off it
 
@@ -287,8 +287,12 @@ module _ (inst : ProblemInstance) (a : Admitted inst) (ranged : Ranged inst) (c 
         proper = subst (UnderWay inst []) (sym compacted_is) (compact_proper inst a ranged C s.proper);
       }
 
-  pub compacted_words : Compacted inst c r
-  compacted_words = record { is = compacted_is; stands = compacted_stands; kept = same_sheets }
+  words_are : r ≡ compacted_words inst c
+  unfolding compacted_words without_sheet apart
+  words_are = sym (rw (le-ltb c.sheets 2 two, worst.1) refl)
+
+  pub compacted_worst : Compacted inst c r
+  compacted_worst = record { words = words_are; is = compacted_is; stands = compacted_stands; kept = same_sheets }
 
 -- as the calls leave it
 pub compacted_by : (inst : ProblemInstance) (a : Admitted inst) (ranged : Ranged inst) (c : Words) (s : Stands inst [] c) (k : ℕ) → IsWorst (candidate_in inst c).bins k → 2 ≤ c.sheets
@@ -306,12 +310,14 @@ compacted_by inst a ranged c s k worst two t e boards back =
     }) =
     λ i. record { boards = is i; sheets = (e i).sheets - 1; insertions = (e i).insertions; unused = (e i).unused }
     in
-    subst (Compacted inst c) (sym all) (compacted_words inst a ranged c s k worst two)
+    subst (Compacted inst c) (sym all) (compacted_worst inst a ranged c s k worst two)
 
 -- a candidate of one sheet stays
 pub compacted_one : (inst : ProblemInstance) (c : Words) → Stands inst [] c → c.sheets < 2 → Compacted inst c c
+unfolding compacted_words
 compacted_one inst c s one =
     record {
+      words = rw (lt-ltb c.sheets 2 one);
       is = sym (compact_one inst.cuts (candidate_in inst c) (omega (arith, bin_count inst c s)));
       stands = s;
       kept = all_map (λ x. Memᴰ x (sheet_boards c)) (SameSheet c c) (λ x m. (m, refl)) (sheet_boards c) (all_self (sheet_boards c));

@@ -4,15 +4,15 @@ use native.Mathlib.Omega.{arith}
 use mathlib.Core.Path.{◌≡◌, sym, ap, ap₂, ◌∙◌, subst}
 use mathlib.Core.Bool.{true, false}
 use mathlib.Core.List.{List, [], ◌∷◌, map}
-use mathlib.Core.Option.{Option, none}
+use mathlib.Core.Option.{Option, none, some}
+use Rattle.std.specs.Prelude.{None, Some}
 use lib.ListN.{length, get_or}
-use Rattle.lists.specs.Base.{is_some, all}
+use Rattle.lists.specs.Base.{◌>>=◌, is_some, all}
 use Rattle.lists.proofs.Options.{none_by, some_by}
 use Rattle.lists.proofs.Booleans.{and_true}
 use Rattle.model.specs.declared.BaselineGuillotineHeuristic.{BaselineGuillotineHeuristic}
 use Rattle.model.specs.Sheet.{GuillotineSheet, rebuild}
 use Rattle.model.specs.Expand.{ProblemInstance}
-use Rattle.model.specs.Search.{child_of}
 use Rattle.project.specs.Problem.{Sound, board_in}
 use Rattle.candidate.specs.declared.Candidate.{Candidate as Words}
 use Rattle.candidate.specs.Entries.{cut_of}
@@ -21,7 +21,7 @@ use Rattle.candidate.specs.Stands.{making_in, placed_words, unused_numbers, cand
 use Rattle.candidate.specs.Rebuilding.{rebuilds_all, Rebuildable}
 use Rattle.candidate.specs.OnSheets.{IsBestDonor}
 use Rattle.candidate.specs.Donated.{with_insertions, with_unused_cuts, donated, others_than, place_among, sheet_of, child_words}
-use Rattle.candidate.specs.Children.{IsTheChild}
+use Rattle.candidate.specs.Children.{child_in, IsChildOf}
 use Rattle.candidate.proofs.variation.Sheets.{index_known}
 use Rattle.candidate.proofs.variation.Crossed.{Ready, child_ready, child_of_lem, child_none, child_some, child_stands}
 
@@ -74,17 +74,31 @@ module _ (inst : ProblemInstance) (sound : Sound inst) (h : BaselineGuillotineHe
     again : rebuilds_all inst insertions (board ∷ []) ≡ is_some Rebuilt
     again = ap (λ (w : List ℕ). rebuilds_all inst w (board ∷ [])) made_words ∙ one_board inst words board
 
-    pub answer_none : rebuilds_all inst insertions (board ∷ []) ≡ false → child_of inst h (candidate_in inst left) (candidate_in inst right) ≡ none
-    answer_none n =
-        child_of_lem inst sound.admitted sound.ranged h left right l r i best
-        ∙ child_none inst sound.admitted sound.ranged h left right l r i best (none_by Rebuilt (sym again ∙ n))
+    -- the donor's board is the one of its first fittest sheet
+    child_in_is : child_in inst h left right ≡ (Rebuilt >>= λ sheet. some child)
+    unfolding child_in
+    child_in_is =
+        ap (λ (o : Option (ℕ × GuillotineSheet)). o >>= λ donor. rebuild inst.kerf_width (board_in inst (get_or right.boards donor.0 0))
+        (making_in inst (donated (placed_words right) (get_or right.boards donor.0 0) h) (get_or right.boards donor.0 0)) >>= λ sheet.
+        some (child_words (length inst.cuts) left right (get_or right.boards donor.0 0) h)) best.1
 
-    answer_some : rebuilds_all inst insertions (board ∷ []) ≡ true → IsTheChild inst (child_of inst h (candidate_in inst left) (candidate_in inst right)) child
+    pub answer_none : rebuilds_all inst insertions (board ∷ []) ≡ false → IsChildOf inst h left right None
+    answer_none n =
+        let e : Rebuilt ≡ none = none_by Rebuilt (sym again ∙ n) in
+        record {
+          words = sym (child_in_is ∙ ap (λ (o : Option GuillotineSheet). o >>= λ sheet. some child) e);
+          is = child_of_lem inst sound.admitted sound.ranged h left right l r i best ∙ child_none inst sound.admitted sound.ranged h left right l r i best e;
+        }
+
+    answer_some : rebuilds_all inst insertions (board ∷ []) ≡ true → IsChildOf inst h left right (Some child)
     answer_some y =
         let t = some_by Rebuilt (sym again ∙ y) in
         record {
-          is = child_of_lem inst sound.admitted sound.ranged h left right l r i best ∙ child_some inst sound.admitted sound.ranged h left right l r i best t.0 t.1;
-          stands = child_stands inst sound.admitted sound.ranged h left right l r i best t.0 t.1;
+          words = sym (child_in_is ∙ ap (λ (o : Option GuillotineSheet). o >>= λ sheet. some child) t.1);
+          is = record {
+            is = child_of_lem inst sound.admitted sound.ranged h left right l r i best ∙ child_some inst sound.admitted sound.ranged h left right l r i best t.0 t.1;
+            stands = child_stands inst sound.admitted sound.ranged h left right l r i best t.0 t.1;
+          };
         }
 
     -- the words of the child
@@ -100,6 +114,6 @@ module _ (inst : ProblemInstance) (sound : Sound inst) (h : BaselineGuillotineHe
           is ∙ ap₂ (λ (k : Words) (m : ℕ). with_unused_cuts k (others_than (map cut_of (placed_words k)) m)) (g ∙ ap (λ (k : Words). sheet_of left k board) e) n
 
       pub child_made : (result : Words) (cuts : ℕ) → cuts ≡ length inst.cuts → result ≡ with_unused_cuts sheet (others_than (map cut_of (placed_words sheet)) cuts)
-          → rebuilds_all inst insertions (board ∷ []) ≡ true → IsTheChild inst (child_of inst h (candidate_in inst left) (candidate_in inst right)) result
+          → rebuilds_all inst insertions (board ∷ []) ≡ true → IsChildOf inst h left right (Some result)
       child_made result cuts n is y =
-          subst (IsTheChild inst (child_of inst h (candidate_in inst left) (candidate_in inst right))) (sym (child_is result cuts n is)) (answer_some y)
+          subst (λ (k : Words). IsChildOf inst h left right (Some k)) (sym (child_is result cuts n is)) (answer_some y)
