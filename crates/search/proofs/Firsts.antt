@@ -59,6 +59,7 @@ module _ (inst : ProblemInstance) (a : Admitted inst) (ranged : Ranged inst) (se
   seed_made after r p =
       let place : List CutInstance → Candidate = place_cuts inst.kerf_width seed.heuristic (new_candidate inst.stock) in
       record {
+        words = p.words;
         is = ap (λ (o : Option (List CutInstance)). o >>= λ cuts. some (place cuts)) found
             ∙ ap (λ (c : Candidate). some (place_cuts inst.kerf_width seed.heuristic c (map (cut_in inst) places))) (sym (new_is inst ranged))
             ∙ ap some (sym p.is);

@@ -1,13 +1,12 @@
 // The numbers of an effort, the rows of heuristics, and the seeds of the first population: `PopulationPipelineConfig`, `heuristic_variants`,
 // `initial_candidate_seeds`.
 
-ghost use Rattle.std.specs.Prelude.{◌≡◌, ◌+◌, ◌<◌, ◌≤◌, List, [], length, slice_index_or};
+ghost use Rattle.std.specs.Prelude.{◌≡◌, ◌≤◌, List, length};
 ghost use Rattle.model.specs.declared.CutInstance.{CutInstance};
-ghost use Rattle.model.specs.Expand.{ProblemInstance};
 ghost use Rattle.model.specs.Search.{heuristic, search_numbers, heuristic_variants, default_heuristic, initial_seeds};
 ghost use Rattle.generator.specs.Shuffle.{shuffled};
 ghost use Rattle.search.specs.Numbers.{numbers_of, sorted_seeds};
-ghost use Rattle.search.specs.Seeds.{InOrder, IsSeed};
+ghost use Rattle.search.specs.Seeds.{row_at, seed_at};
 
 use arrayvec::ArrayVec;
 use generator::shuffle;
@@ -106,7 +105,7 @@ pub fn heuristic_variants() -> [BaselineGuillotineHeuristic; 5]
 
 // Row k, and the source's default where there is none.
 fn heuristic_at(rows: &[BaselineGuillotineHeuristic], k: usize) -> BaselineGuillotineHeuristic
-    ensures { result ≡ slice_index_or rows.now k (default_heuristic []) }
+    ensures { result ≡ row_at rows.now k }
 {
     if k < rows.len() {
         return rows[k];
@@ -152,15 +151,14 @@ fn shuffled_order(sorted: &ArrayVec<u32, 64>, seed: u64) -> ArrayVec<u32, 64>
     order
 }
 
-// The k-th of initial_candidate_seeds, from the sorted order.
+// The k-th of initial_candidate_seeds, from the sorted order (`seed_at_is`). The equation holds of any order and any number.
 pub fn initial_candidate_seed(
     sorted: &ArrayVec<u32, 64>,
     rows: &[BaselineGuillotineHeuristic],
     n: SearchNumbers,
     k: usize,
 ) -> CandidateSeed
-    requires { k < sorted_seeds rows.now n + n.shuffles }
-    ensures { (inst : ProblemInstance) → InOrder inst sorted.now.items → IsSeed rows.now inst (numbers_of n) k result }
+    ensures { result ≡ seed_at sorted.now.items rows.now n k }
 {
     let first = sorted_seeds(rows, n);
     if k < first {

@@ -1,11 +1,11 @@
 -- `search::initial_population` meets its contract: the candidates of the first k seeds are stored.
-use Prim.Native.Nat.{ℕ}
+use Prim.Native.Nat.{ℕ, ◌+◌, ◌<◌}
 use native.Mathlib.Omega.{arith}
-use mathlib.Core.Path.{◌≡◌, subst}
+use mathlib.Core.Path.{◌≡◌, sym, subst}
 use mathlib.Core.List.{[]}
-use Rattle.search.specs.Numbers.{numbers_of}
+use Rattle.search.specs.Numbers.{numbers_of, sorted_seeds}
 use Rattle.search.specs.Seeds.{IsSeed}
-use Rattle.search.proofs.seeds.Nth.{seeds_length}
+use Rattle.search.proofs.seeds.Nth.{seeds_length, seed_at_is}
 use Rattle.search.specs.Populations.{Stores}
 use Rattle.search.proofs.Firsts.{firsts_all, in_order, StoredTo, stored_none, stored_step}
 use Rattle.search.proofs.initial_population.Goals as goal
@@ -14,14 +14,15 @@ use Rattle.search.proofs.initial_population.Goals.{After-initial_candidate_seed-
 -- the seed that is tried
 seed_is : (c : After-initial_candidate_seed-seed) → IsSeed c.args.rows.now c.args.inst.now (numbers_of c.args.n) c.loop-k.k c.initial_candidate_seed-seed.result
 seed_is c =
+    let rows = c.args.rows.now in
+    let inst = c.args.inst.now in
     let sorted = rw c.cuts.ensures.value at c.sorted_cut_order-sorted.ensures in
-    c.initial_candidate_seed-seed.ensures c.args.inst.now (in_order c.args.inst.now c.sorted_cut_order-sorted.result.items sorted.0 sorted.1)
+    let few : c.loop-k.k < sorted_seeds rows c.args.n + c.args.n.shuffles = omega (arith, c.loop-k-test.true, c.seed_count-count.ensures.0 [], seeds_length rows c.args.n []) in
+    subst (IsSeed rows inst (numbers_of c.args.n) c.loop-k.k) (sym c.initial_candidate_seed-seed.ensures)
+    (seed_at_is rows c.args.n inst c.sorted_cut_order-sorted.result.items (in_order inst c.sorted_cut_order-sorted.result.items sorted.0 sorted.1) c.loop-k.k few)
 
 pub loop-k-init : goal.loop-k-init
 loop-k-init c = stored_none c.args.rows.now c.args.inst.now (numbers_of c.args.n) c.args.ws.now
-
-pub initial_candidate_seed-seed-requires : goal.initial_candidate_seed-seed-requires
-initial_candidate_seed-seed-requires c = omega (arith, c.loop-k-test.true, c.seed_count-count.ensures.0 [], seeds_length c.args.rows.now c.args.n [])
 
 pub candidate_from_seed-c-requires : goal.candidate_from_seed-c-requires
 candidate_from_seed-c-requires c = (c.cuts.ensures.sound, (seed_is (goal.at.candidate_from_seed-c-requires c).After-initial_candidate_seed-seed).once)

@@ -1,7 +1,9 @@
 -- The seeds one by one: those of the sorted order, one for each row that is used, and then the shuffles.
 use Rattle.std.specs.Prelude.{if◌then◌else◌}
 use Rattle.std.proofs.Common.{◌≡◌, ℕ, zero, suc, ◌+◌, ◌-◌, ◌<◌, ◌≤◌, Bool, true, false, List, [], ◌∷◌, ◌++◌, map, length, get_or, sym, refl, ap, ◌∙◌, subst, not-suc-le-zero, arith, length-append, get_or-append-add}
+use lib.Dec.{ltb}
 use lib.ListN.{get_or-append, get_or-eq_default}
+use borrow.Author.Tests.{ltb-true, ltb-false}
 use Rattle.lists.specs.Base.{range}
 use Rattle.lists.specs.Elements.{Perm, also}
 use Rattle.lists.proofs.Sums.{length-map, length_count_from}
@@ -19,7 +21,7 @@ use Rattle.generator.proofs.shuffle.Shuffle.{shuffled_perm, shuffled_keys}
 use Rattle.project.specs.Problem.{cut_in}
 use Rattle.search.specs.declared.seeds.SearchNumbers.{SearchNumbers}
 use Rattle.search.specs.Numbers.{numbers_of, sorted_seeds}
-use Rattle.search.specs.Seeds.{seed_in, InOrder, no_seed, IsSeed}
+use Rattle.search.specs.Seeds.{seed_in, InOrder, row_at, seed_at, no_seed, IsSeed}
 
 -- ---- the seeds in two parts
 
@@ -36,10 +38,6 @@ two_parts rows cuts n = go n.variants (map (shuffled_seed cuts (default_heuristi
     go : (b : Bool) (shuffles : List Seed) → sorted_seed cuts (default_heuristic rows) ∷ (variant_seeds cuts rows b ++ shuffles) ≡ map (sorted_seed cuts) (used rows b) ++ shuffles
     go true shuffles = refl
     go false shuffles = refl
-
--- row k, and the source's default where there is none
-abbrev pub row_at : List BaselineGuillotineHeuristic → ℕ → BaselineGuillotineHeuristic
-row_at rows k = get_or rows k (default_heuristic [])
 
 pub first_row : (rows : List BaselineGuillotineHeuristic) → default_heuristic rows ≡ row_at rows 0
 unfolding default_heuristic
@@ -129,14 +127,14 @@ module _ (rows : List BaselineGuillotineHeuristic) (n : SearchNumbers) where
     unfolding sorted_cut_order
     keys = sym (map-map cut_key (cut_in inst) sorted) ∙ ap (map cut_key) o.sorted
 
-    pub is_sorted : k < sorted_seeds rows n → h ≡ row_at rows k → IsSeed rows inst (numbers_of n) k (record { cut_order = record { items = sorted }; heuristic = h })
+    is_sorted : k < sorted_seeds rows n → h ≡ row_at rows k → IsSeed rows inst (numbers_of n) k (record { cut_order = record { items = sorted }; heuristic = h })
     unfolding seed_in sorted_seed
     is_sorted l e = record { is = made ∙ sym (nth_sorted inst.cuts k l); once = o.once }
       where
         made : seed_in inst (record { cut_order = record { items = sorted }; heuristic = h }) ≡ sorted_seed inst.cuts (row_at rows k)
         made = λ i. record { cut_order = keys i; heuristic = e i }
 
-    pub is_shuffled : (seed : ℕ) (order : List ℕ) → sorted_seeds rows n ≤ k → k < sorted_seeds rows n + n.shuffles → seed ≡ wrap (n.first_seed + (k - sorted_seeds rows n)) → h ≡ row_at rows 0
+    is_shuffled : (seed : ℕ) (order : List ℕ) → sorted_seeds rows n ≤ k → k < sorted_seeds rows n + n.shuffles → seed ≡ wrap (n.first_seed + (k - sorted_seeds rows n)) → h ≡ row_at rows 0
         → order ≡ shuffled 0 seed sorted
         → IsSeed rows inst (numbers_of n) k (record { cut_order = record { items = order }; heuristic = h })
     unfolding seed_in shuffled_seed shuffle_cut_order numbers_of
@@ -152,3 +150,16 @@ module _ (rows : List BaselineGuillotineHeuristic) (n : SearchNumbers) where
             ap (map key) e ∙ shuffled_keys key seed sorted (sorted_cut_order inst.cuts) keys ∙ ap (shuffle_cut_order inst.cuts) s
             in
             λ i. record { cut_order = shuffle i; heuristic = g i }
+
+  -- of the cuts' sorted order
+  pub seed_at_is : (inst : ProblemInstance) (sorted : List ℕ) → InOrder inst sorted → (k : ℕ) → k < sorted_seeds rows n + n.shuffles → IsSeed rows inst (numbers_of n) k (seed_at sorted rows n k)
+  unfolding seed_at
+  seed_at_is inst sorted o k l = go (ltb k (sorted_seeds rows n)) refl
+    where
+      seed : ℕ
+      seed = wrap (n.first_seed + (k - sorted_seeds rows n))
+
+      go : (b : Bool) → ltb k (sorted_seeds rows n) ≡ b → IsSeed rows inst (numbers_of n) k (if b then record { cut_order = record { items = sorted }; heuristic = row_at rows k }
+          else record { cut_order = record { items = shuffled 0 seed sorted }; heuristic = row_at rows 0 })
+      go true e = is_sorted inst sorted o k (row_at rows k) (ltb-true k (sorted_seeds rows n) e) refl
+      go false e = is_shuffled inst sorted o k (row_at rows 0) seed (shuffled 0 seed sorted) (ltb-false k (sorted_seeds rows n) e) l refl refl refl

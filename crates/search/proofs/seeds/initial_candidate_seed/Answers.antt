@@ -1,19 +1,34 @@
--- `seeds::initial_candidate_seed` meets its contract: a seed of the sorted order, or a shuffle.
-use Rattle.std.proofs.Common.{◌≡◌, ℕ, ◌+◌, ◌-◌, ◌<◌, ◌≤◌, ap, ◌∙◌, arith}
+-- `seeds::initial_candidate_seed` meets its contract: a seed of the order as it is, or a shuffle.
+use Rattle.std.specs.Prelude.{if◌then◌else◌}
+use Rattle.std.proofs.Common.{◌≡◌, ℕ, ◌+◌, ◌-◌, ◌<◌, ◌≤◌, List, sym, ap, ◌∙◌, arith}
+use borrow.Author.Tests.{lt-ltb, le-ltb}
+use Rattle.model.specs.declared.BaselineGuillotineHeuristic.{BaselineGuillotineHeuristic}
 use Rattle.model.specs.TinyPrng.{wrap}
+use Rattle.generator.specs.Shuffle.{shuffled}
+use Rattle.search.specs.declared.seeds.CandidateSeed.{CandidateSeed}
+use Rattle.search.specs.declared.seeds.SearchNumbers.{SearchNumbers}
 use Rattle.search.specs.Numbers.{sorted_seeds}
-use Rattle.search.proofs.seeds.Nth.{is_sorted, is_shuffled}
+use Rattle.search.specs.Seeds.{row_at, seed_at}
 use Rattle.search.proofs.seeds.initial_candidate_seed.Goals as goal
+
+module _ (order : List ℕ) (rows : List BaselineGuillotineHeuristic) (n : SearchNumbers) (k : ℕ) (items : List ℕ) (h : BaselineGuillotineHeuristic) where
+  abbrev seed : CandidateSeed
+  seed = record { cut_order = record { items = items }; heuristic = h }
+
+  as_it_is : k < sorted_seeds rows n → items ≡ order → h ≡ row_at rows k → seed ≡ seed_at order rows n k
+  unfolding seed_at
+  as_it_is l e f = rw (lt-ltb k (sorted_seeds rows n) l) (λ i. record { cut_order = record { items = e i }; heuristic = f i })
+
+  a_shuffle : (first : ℕ) → first ≡ sorted_seeds rows n → first ≤ k → items ≡ shuffled 0 (wrap (n.first_seed + (k - first))) order → h ≡ row_at rows 0 → seed ≡ seed_at order rows n k
+  unfolding seed_at
+  a_shuffle first s l e f =
+      let g : items ≡ shuffled 0 (wrap (n.first_seed + (k - sorted_seeds rows n))) order = e ∙ ap (λ (m : ℕ). shuffled 0 (wrap (n.first_seed + (k - m))) order) s in
+      rw (le-ltb k (sorted_seeds rows n) (omega (arith, s, l))) (λ i. record { cut_order = record { items = g i }; heuristic = f i })
 
 pub returns-then-k-first : goal.returns-then-k-first
 returns-then-k-first c =
-    let front : c.args.k < sorted_seeds c.args.rows.now c.args.n = omega (arith, c.sorted_seeds-first.ensures, c.if-k-first.true) in
-    λ inst o. rw (c.listed.ensures ∙ c.as_slice.ensures.value) (is_sorted c.args.rows.now c.args.n inst c.args.sorted.now.items o c.args.k _ front c.heuristic_at.ensures)
+    as_it_is c.args.sorted.now.items c.args.rows.now c.args.n c.args.k _ _ (omega (arith, c.sorted_seeds-first.ensures, c.if-k-first.true)) (c.listed.ensures ∙ c.as_slice.ensures.value) c.heuristic_at.ensures
 
 pub returns : goal.returns
 returns c =
-    let first : c.sorted_seeds-first.result ≡ sorted_seeds c.args.rows.now c.args.n = c.sorted_seeds-first.ensures in
-    let behind : sorted_seeds c.args.rows.now c.args.n ≤ c.args.k = omega (arith, first, c.if-k-first.false) in
-    let number : ℕ = wrap (c.args.n.first_seed + (c.args.k - c.sorted_seeds-first.result)) in
-    let seed : number ≡ wrap (c.args.n.first_seed + (c.args.k - sorted_seeds c.args.rows.now c.args.n)) = ap (λ (f : ℕ). wrap (c.args.n.first_seed + (c.args.k - f))) first in
-    λ inst o. is_shuffled c.args.rows.now c.args.n inst c.args.sorted.now.items o c.args.k _ number c.shuffled_order.result.items behind c.requires seed c.heuristic_at-2.ensures c.shuffled_order.ensures
+    a_shuffle c.args.sorted.now.items c.args.rows.now c.args.n c.args.k _ _ c.sorted_seeds-first.result c.sorted_seeds-first.ensures (omega (arith, c.if-k-first.false)) c.shuffled_order.ensures c.heuristic_at-2.ensures
