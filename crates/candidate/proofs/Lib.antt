@@ -8,3 +8,4 @@ pub mod Start
 pub mod Standing
 pub mod Placement
 pub mod Reinsertion
+pub mod Alike

@@ -2,6 +2,7 @@
 pub mod Entries
 pub mod Moves
 pub mod Stands
+pub mod Alike
 -- fitness
 pub mod Areas
 -- scores

@@ -19,6 +19,7 @@ use Rattle.model.specs.declared.CutInstance.{CutInstance}
 use Rattle.model.specs.Types.{cut_area, stock_area}
 use Rattle.model.specs.Sheet.{GuillotineSheet, Insertion, new_sheet, rebuild, making_of, placed_area}
 use Rattle.model.specs.Expand.{ProblemInstance}
+use Rattle.model.specs.Search.{full_stock}
 use Rattle.trust.specs.Limits.{most_areas}
 use Rattle.trust.specs.Proper.{SheetProper, cuts_of}
 use Rattle.trust.specs.Admitted.{Ranged}
@@ -78,6 +79,19 @@ module _ (inst : ProblemInstance) (later : List ℕ) (c : Words) (s : Stands ins
   pub bins_proper : All (λ b. SheetProper inst.kerf_width (bin_in inst words b)) (sheet_boards c)
   unfolding candidate_in
   bins_proper = all_of_map (SheetProper inst.kerf_width) (bin_in inst words) (sheet_boards c) s.proper.kept.sheets
+
+  -- its boards, those of the sheets first
+  pub full_stock_is : Ranged inst → full_stock (candidate_in inst c) ≡ map (board_in inst) (take (length inst.stock) c.boards)
+  unfolding full_stock candidate_in
+  full_stock_is ranged =
+      let f : ℕ → GuillotineSheet = bin_in inst words in
+      let S : List ℕ = sheet_boards c in
+      let A : List ℕ = available_boards inst c in
+      ap (λ (x : List StockInstance). x ++ map (board_in inst) A)
+      (map-map (λ (b : GuillotineSheet). b.stock) f S
+      ∙ map_same (board_in inst) (λ b. (f b).stock) S (all_map (λ b. Made (board_in inst b) (making_in inst words b) (f b)) (λ b. (f b).stock ≡ board_in inst b) (λ b m. m.stock) S bin_made))
+      ∙ sym (map_append (board_in inst) S A)
+      ∙ ap (map (board_in inst)) (boards_split inst later c s ranged)
 
 -- the sheet at an index
 pub record BinAt (inst : ProblemInstance) (c : Words) (k : ℕ) : Type 0 where

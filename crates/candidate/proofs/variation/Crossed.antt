@@ -16,7 +16,7 @@ use Rattle.lists.proofs.Perm.{perm_sym, perm_append_right, perm_append_comm, all
 use Rattle.lists.proofs.Sums.{length-map, length_count_from, map_append}
 use Rattle.lists.proofs.Kept.{retain_all, parted, retain_map}
 use Rattle.lists.proofs.Counts.{range_below, map_get}
-use Rattle.lists.proofs.Maps.{map_same, map_remove_at, map-map}
+use Rattle.lists.proofs.Maps.{map_remove_at, map-map}
 use Rattle.lists.proofs.Every.{all_of_map}
 use Rattle.model.specs.declared.BaselineGuillotineHeuristic.{BaselineGuillotineHeuristic}
 use Rattle.model.specs.declared.StockInstance.{StockInstance}
@@ -44,7 +44,7 @@ use Rattle.candidate.proofs.Standing.{few_boards_lem, length_all_boards, boards_
 use Rattle.candidate.specs.Keys.{elem}
 use Rattle.candidate.specs.OnSheets.{no_bin, IsBestDonor}
 use Rattle.candidate.proofs.evaluation.BestIndex.{donor_bin}
-use Rattle.candidate.proofs.evaluation.Sheets.{Made, bin_made, BinAt, bin_at}
+use Rattle.candidate.proofs.evaluation.Sheets.{BinAt, bin_at, full_stock_is}
 use Rattle.candidate.proofs.evaluation.KeyNumbers.{same_number, contains_number}
 use Rattle.candidate.specs.Donated.{with_insertions, with_unused_cuts, anew, donated, others_than, place_among, sheet_of, child_words}
 use Rattle.candidate.proofs.variation.Pushes.{cut_small}
@@ -223,16 +223,7 @@ module _ (inst : ProblemInstance) (a : Admitted inst) (ranged : Ranged inst) (h 
   -- ---- what the definition finds
 
   full_stock_lem : full_stock (candidate_in inst left) ≡ map (board_in inst) L
-  unfolding full_stock candidate_in
-  full_stock_lem =
-      let f : ℕ → GuillotineSheet = bin_in inst (placed_words left) in
-      let S : List ℕ = sheet_boards left in
-      let A : List ℕ = available_boards inst left in
-      ap (λ (x : List StockInstance). x ++ map (board_in inst) A)
-      (map-map (λ (b : GuillotineSheet). b.stock) f S
-      ∙ map_same (board_in inst) (λ b. (f b).stock) S (all_map (λ b. Made (board_in inst b) (making_in inst (placed_words left) b) (f b)) (λ b. (f b).stock ≡ board_in inst b) (λ b m. m.stock) S (bin_made inst [] left l)))
-      ∙ sym (map_append (board_in inst) S A)
-      ∙ ap (map (board_in inst)) (boards_split inst [] left l ranged)
+  full_stock_lem = full_stock_is inst [] left l ranged
 
   abbrev of_board : ℕ × StockInstance → Bool
   of_board e = same_key (stock_key e.1) (stock_key donor.stock)
