@@ -16,7 +16,7 @@ use Rattle.model.specs.Expand.{ProblemInstance}
 use Rattle.model.specs.Search.{child_of, children, crossover_population}
 use Rattle.candidate.specs.declared.Candidate.{Candidate as Words}
 use Rattle.candidate.specs.Stands.{candidate_in}
-use Rattle.search.specs.Slots.{slot_words, slot_of, store_in}
+use Rattle.search.specs.Slots.{slot_words, slot_of}
 use Rattle.search.specs.Populations.{words_at, StandsAt, candidate_at, population_in, AllStand, Stores, OnlySlots}
 use Rattle.search.proofs.stored.Populations.{slot_kept, only_wider, only_none, only_then, same_slot, stands_as, standing_at, population_length, population_at, pushed_only}
 use Rattle.candidate.specs.Children.{IsChild}
@@ -25,24 +25,31 @@ use Rattle.search.specs.Regions.{PushesChild}
 
 -- ---- one child
 
-pub push_none : (base size : ℕ) (ws : List ℕ) → PushesChild base size None ws ws size
-push_none base size ws =
-    record {
-      holds = λ inst o cs few k h. subst (Stores inst ws base size) (sym (ap (λ (p : Option Candidate). cs ++ to_list p) k ∙ append-nil cs)) h;
-      only = λ inst o few k. only_none (base + size) (base + size + 1) ws;
-      least = omega arith;
-      most = omega arith;
-    }
+-- what a pushed child does to the population before it
+record Pushed (inst : ProblemInstance) (o : Option Candidate) (base size : ℕ) (before after : List ℕ) (r : ℕ) : Type 0 where
+  pub holds : (cs : List Candidate) → Stores inst before base size cs → Stores inst after base r (cs ++ to_list o)
+  pub only : OnlySlots (base + size) (base + size + 1) before after
+  pub least : size ≤ r
+  pub most : r ≤ size + 1
 
-pub push_one : (base size : ℕ) (c : Words) (ws after : List ℕ) → slot_words * (base + size) + slot_words ≤ length ws
-    → after ≡ store_in ws (base + size) c → PushesChild base size (Some c) ws after (size + 1)
-push_one base size c ws after room e =
+pushed : (inst : ProblemInstance) (o : Option Candidate) (base size : ℕ) (child : Child Words) (ws after : List ℕ) (r : ℕ) → length inst.cuts ≤ 64
+    → slot_words * (base + size) + slot_words ≤ length ws → IsChild inst o child → PushesChild base size child ws after r → Pushed inst o base size ws after r
+pushed inst o base size None ws after r few room k p =
     record {
-      holds = λ inst o cs few k h.
-          subst (Stores inst after base (size + 1)) (ap (λ (p : Option Candidate). cs ++ to_list p) (sym k.is)) (pushed_holds inst ws after base size c k.stands room few e cs h);
-      only = λ inst o few k. pushed_only inst ws after base size c k.stands room few e;
-      least = omega arith;
-      most = omega arith;
+      holds = λ cs h. subst (λ (n : ℕ). Stores inst after base n (cs ++ to_list o)) (sym p.1)
+          (subst (λ (l : List ℕ). Stores inst l base size (cs ++ to_list o)) (sym p.0)
+          (subst (Stores inst ws base size) (sym (ap (λ (q : Option Candidate). cs ++ to_list q) k ∙ append-nil cs)) h));
+      only = subst (OnlySlots (base + size) (base + size + 1) ws) (sym p.0) (only_none (base + size) (base + size + 1) ws);
+      least = omega (arith, p.1);
+      most = omega (arith, p.1);
+    }
+pushed inst o base size (Some c) ws after r few room k p =
+    record {
+      holds = λ cs h. subst (λ (n : ℕ). Stores inst after base n (cs ++ to_list o)) (sym p.1)
+          (subst (Stores inst after base (size + 1)) (ap (λ (q : Option Candidate). cs ++ to_list q) (sym k.is)) (pushed_holds inst ws after base size c k.stands room few p.0 cs h));
+      only = pushed_only inst ws after base size c k.stands room few p.0;
+      least = omega (arith, p.1);
+      most = omega (arith, p.1);
     }
 
 -- ---- pair by pair
@@ -83,23 +90,24 @@ module _ (inst : ProblemInstance) (h : BaselineGuillotineHeuristic) (before ws :
       ∙ ap₂ {C = List Candidate} (λ x r. x ∷ r) (population_at inst before base count (i + 1) d (omega arith)) (ap (λ (m : ℕ). drop m parents) two))
 
   pub crossed_step : (after : List ℕ) (left right : Words) (child : Child Words) (r : ℕ) → i + 1 < count → count ≤ 32 → length inst.cuts ≤ 64
-      → left ≡ words_at inst before (base + i) → right ≡ words_at inst before (base + (i + 1)) → IsChild inst (child_of inst h (candidate_in inst left) (candidate_in inst right)) child
+      → slot_words * (base + size) + slot_words ≤ length ws → left ≡ words_at inst before (base + i) → right ≡ words_at inst before (base + (i + 1)) → IsChild inst (child_of inst h (candidate_in inst left) (candidate_in inst right)) child
       → PushesChild base size child ws after r → CrossedTo inst h before base count (i + 2) r after
   unfolding children candidate_at
-  crossed_step after left right child r here few cuts el er k p =
+  crossed_step after left right child r here few cuts room el er k p =
       let o : Option Candidate = child_of inst h (candidate_in inst left) (candidate_in inst right) in
       let same : o ≡ child_of inst h (candidate_at inst before (base + i)) (candidate_at inst before (base + (i + 1))) = ap₂ (λ (x y : Words). child_of inst h (candidate_in inst x) (candidate_in inst y)) el er in
       let next : children inst h (drop i parents) ≡ to_list o ++ children inst h (drop (i + 2) parents) =
       ap (children inst h) (pair here) ∙ ap (λ (q : Option Candidate). to_list q ++ children inst h (drop (i + 2) parents)) (sym same)
       in
+      let q = pushed inst o base size child ws after r cuts room k p in
       record {
         done = c.done ++ to_list o;
-        holds = subst (Stores inst after base r) (append_assoc parents c.done (to_list o)) (p.holds inst o (parents ++ c.done) cuts k c.holds);
+        holds = subst (Stores inst after base r) (append_assoc parents c.done (to_list o)) (q.holds (parents ++ c.done) c.holds);
         rest = append_assoc c.done (to_list o) (children inst h (drop (i + 2) parents)) ∙ ap (λ (l : List Candidate). c.done ++ l) (sym next) ∙ c.rest;
         only = only_then (base + count) (base + 48) before ws after c.only
-            (only_wider (base + size) (base + size + 1) ws after (p.only inst o cuts k) (base + count) (base + 48) (omega (arith, c.least)) (omega (arith, c.most)));
-        least = omega (arith, c.least, p.least);
-        most = omega (arith, c.most, p.most);
+            (only_wider (base + size) (base + size + 1) ws after q.only (base + count) (base + 48) (omega (arith, c.least)) (omega (arith, c.most)));
+        least = omega (arith, c.least, q.least);
+        most = omega (arith, c.most, q.most);
       }
 
   -- no pair is left

@@ -56,7 +56,8 @@ loop-pair-preserved c =
     let next : i + 2 ≡ 2 * (c.loop-pair.pair + 1) = omega arith in
     subst (λ (n : ℕ). CrossedTo inst c.args.h before base count n c.push_child-size.result c.push_child-size.new.ws) next
     (crossed_step inst c.args.h before c.loop-pair.ws base count i c.loop-pair.size c.loop-pair.invariant c.push_child-size.new.ws c.load_at-left.result c.load_at-right.result c.crossover_child_from_donor_bin-child.result c.push_child-size.result
-    here c.requires.1 c.cuts-cuts.ensures.sound.ranged.few_panels left right c.crossover_child_from_donor_bin-child.ensures.is c.push_child-size.ensures)
+    here c.requires.1 c.cuts-cuts.ensures.sound.ranged.few_panels
+    (omega (arith, c.loop-pair.auto.ws, c.loop-pair-test.true, c.loop-pair.invariant.most, c.requires.1, c.requires.2)) left right c.crossover_child_from_donor_bin-child.ensures.is c.push_child-size.ensures)
 
 pub returns : goal.returns
 returns c = (

@@ -21,9 +21,9 @@ returns c =
     let size : ℕ = c.crossover_population-count.result in
     let low : base ≤ 48 = region_most base c.requires.2 in (
       subst (Stores inst ws₃ (48 - base) c.survival_generation-count.result)
-          (generation_is inst c.args.h c.args.survivors (population_in inst ws₀ base parents) (population_in inst ws₁ base size) (population_in inst ws₂ base size) c.crossover_population-count.ensures.0.is c.improve_population.ensures.0.is) c.survival_generation-count.ensures.0,
+          (generation_is inst c.args.h c.args.survivors (population_in inst ws₀ base parents) (population_in inst ws₁ base size) (population_in inst ws₂ base size) c.crossover_population-count.ensures.0.is c.improve_population.ensures.0.is) c.survival_generation-count.ensures.becomes,
       refl,
       only_then 0 96 ws₀ ws₁ ws₃ (only_wider (base + parents) (base + 48) ws₀ ws₁ c.crossover_population-count.ensures.1 0 96 (omega arith) (omega arith))
           (only_then 0 96 ws₁ ws₂ ws₃ (only_wider base (base + size) ws₁ ws₂ c.improve_population.ensures.1 0 96 (omega arith) (omega (arith, low, c.crossover_population-count.ensures.2)))
-          (only_wider (48 - base) (48 - base + 48) ws₂ ws₃ c.survival_generation-count.ensures.1 0 96 (omega arith) (omega arith))),
+          (only_wider (48 - base) (48 - base + c.survival_generation-count.result) ws₂ ws₃ c.survival_generation-count.ensures.copies.only 0 96 (omega arith) (omega (arith, c.survival_generation-count.ensures.few)))),
     )

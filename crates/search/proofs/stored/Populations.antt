@@ -218,30 +218,19 @@ module _ (inst : ProblemInstance) where
     pub pushed_stands : AllStand inst ws base n → AllStand inst ws' base (n + 1)
     pushed_stands s = standing_push ws ws' base n pushed_only s (subst (λ (l : List ℕ). StandsAt inst l (base + n)) (sym e) (store_stands ws (base + n) c h room few))
 
-  -- ---- by a copy
+-- ---- by a copy
 
-  module _ (ws ws' : List ℕ) (from base n : ℕ) (room : slot_words * from + slot_words ≤ length ws) (there : slot_words * (base + n) + slot_words ≤ length ws)
-      (e : ws' ≡ patch ws (slot_words * (base + n)) (slot_of ws from)) where
-    pub copied_only : OnlySlots (base + n) (base + n + 1) ws ws'
-    copied_only = subst (OnlySlots (base + n) (base + n + 1) ws) (sym e) (patch_only ws (base + n) (slot_of ws from) (omega arith) (omega (arith, length_part ws (slot_words * from) slot_words room)))
+module _ (ws ws' : List ℕ) (from base n : ℕ) (room : slot_words * from + slot_words ≤ length ws) (there : slot_words * (base + n) + slot_words ≤ length ws)
+    (e : ws' ≡ patch ws (slot_words * (base + n)) (slot_of ws from)) where
+  pub copied_only : OnlySlots (base + n) (base + n + 1) ws ws'
+  copied_only = subst (OnlySlots (base + n) (base + n + 1) ws) (sym e) (patch_only ws (base + n) (slot_of ws from) (omega arith) (omega (arith, length_part ws (slot_words * from) slot_words room)))
 
-    copied_slot : slot_of ws' (base + n) ≡ slot_of ws from
-    copied_slot =
-        let b : List ℕ = slot_of ws from in
-        ap (λ (l : List ℕ). slot_of l (base + n)) e
-        ∙ part_patch ws (slot_words * (base + n)) b slot_words (omega arith)
-        ∙ take_whole b (drop (slot_words * (base + n) + length b) ws) (length_part ws (slot_words * from) slot_words room)
-      where
-        take_whole : (p q : List ℕ) → length p ≡ slot_words → take slot_words (p ++ q) ≡ p
-        take_whole p q s = lib.Seq.take_at p q slot_words s
-
-    copied_words : words_at inst ws' (base + n) ≡ words_at inst ws from
-    unfolding stored_in
-    copied_words = ap (unpacked (length inst.cuts)) copied_slot
-
-    pub copied_population : population_in inst ws' base (n + 1) ≡ population_in inst ws base n ++ (candidate_at inst ws from ∷ [])
-    unfolding candidate_at
-    copied_population = population_push ws ws' base n copied_only ∙ ap (λ (x : Candidate). population_in inst ws base n ++ (x ∷ [])) (ap (candidate_in inst) copied_words)
-
-    pub copied_stands : AllStand inst ws base n → StandsAt inst ws from → AllStand inst ws' base (n + 1)
-    copied_stands s k = standing_push ws ws' base n copied_only s (stands_as ws ws' from (base + n) copied_slot k)
+  pub copied_slot : slot_of ws' (base + n) ≡ slot_of ws from
+  copied_slot =
+      let b : List ℕ = slot_of ws from in
+      ap (λ (l : List ℕ). slot_of l (base + n)) e
+      ∙ part_patch ws (slot_words * (base + n)) b slot_words (omega arith)
+      ∙ take_whole b (drop (slot_words * (base + n) + length b) ws) (length_part ws (slot_words * from) slot_words room)
+    where
+      take_whole : (p q : List ℕ) → length p ≡ slot_words → take slot_words (p ++ q) ≡ p
+      take_whole p q s = lib.Seq.take_at p q slot_words s

@@ -32,7 +32,7 @@ returns c =
     ∙ ap (run_generations inst h n.survivors n.generations) c.initial_population-count.ensures.0.is
     in (
       subst (λ (o : Option Candidate). Selected inst o c.select_best_valid_candidate.result)
-          (winner_is rows inst n h (population_in inst c.loop-round.ws c.loop-round.slots.base c.loop-round.slots.count) (sym c.default_heuristic-h.ensures) last) c.select_best_valid_candidate.ensures,
+          (winner_is rows inst n h (population_in inst c.loop-round.ws c.loop-round.slots.base c.loop-round.slots.count) (sym c.default_heuristic-h.ensures) last) c.select_best_valid_candidate.ensures.is,
       behind_kept c.args.ws.now c.loop-round.ws
           (only_then 0 96 c.args.ws.now c.initial_population-count.new.ws c.loop-round.ws (only_wider 0 48 c.args.ws.now c.initial_population-count.new.ws c.initial_population-count.ensures.1 0 96 (omega arith) (omega arith)) c.loop-round.invariant.only),
     )
