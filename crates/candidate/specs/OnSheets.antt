@@ -52,11 +52,11 @@ IsFirstBest better sheets k = (k < length sheets) × (first_best (λ i j. better
 abbrev pub no_bin : GuillotineSheet
 no_bin = new_sheet no_stock
 
--- worst_bin_index: `worst_bin` is the sheet at it
+-- `worst_bin` is the sheet at that index
 abbrev pub IsWorst : List GuillotineSheet → ℕ → Type 0
 IsWorst bins k = (k < length bins) × (worst_bin bins ≡ some (k, get_or bins k no_bin))
 
--- best_donor_bin_index, with the bin: the first fittest
+-- the first fittest, with its index
 unfoldable pub best_donor : List GuillotineSheet → Option (ℕ × GuillotineSheet)
 best_donor bins = first_best (λ a b. is_greater (compare_float (sheet_fitness a.1) (sheet_fitness b.1))) (enumerate bins)
 

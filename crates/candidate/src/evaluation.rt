@@ -1,15 +1,13 @@
 // What a candidate is worth: the areas and the fitness of its sheets, its validity and its score.
 
-ghost use Rattle.std.specs.Prelude.{◌≡◌, List, [], map, ◌<◌, ◌^◌, Bool, Float, length, sum_by};
+ghost use Rattle.std.specs.Prelude.{◌≡◌, [], map, ◌<◌, ◌^◌, Bool, Float, length, sum_by};
 ghost use Rattle.std.proofs.Math.Option.{some};
 ghost use Rattle.lists.specs.Base.{sum, range};
 ghost use Rattle.lists.specs.Elements.{All};
-ghost use Rattle.model.specs.Sheet.{GuillotineSheet};
 ghost use Rattle.candidate.specs.Scores.{score_of};
-ghost use Rattle.candidate.specs.Areas.{areas_of};
 ghost use Rattle.candidate.specs.Entries.{cut_of};
 ghost use Rattle.candidate.specs.Stands.{candidate_in, Stands, placed_words};
-ghost use Rattle.candidate.specs.OnSheets.{word_area, placed_on, Known, AreasOf, IsFirstBest, IsWorst, IsBestDonor, score_in};
+ghost use Rattle.candidate.specs.OnSheets.{word_area, placed_on, Known, AreasOf, IsFirstBest, less_fit, fitter, score_in};
 ghost use Rattle.candidate.specs.Keys.{repeats, valid_words};
 
 use super::fitness::SheetAreas;
@@ -75,10 +73,10 @@ fn first_best<F: Fn(f64, f64) -> bool>(sheets: &[SheetAreas], better: F) -> usiz
     best
 }
 
-// The first least fit sheet.
+// The first least fit sheet. Of sheets of a candidate it is the definition's: a law (`worst_index`), and of the fittest too (`donor_index`).
 pub fn worst_bin_index(sheets: &[SheetAreas]) -> usize
     requires { 0 < length sheets.now }
-    ensures { (bins : List GuillotineSheet) → sheets.now ≡ map areas_of bins → IsWorst bins result }
+    ensures { IsFirstBest less_fit sheets.now result }
 {
     first_best(sheets, scores::is_less_fit)
 }
@@ -86,7 +84,7 @@ pub fn worst_bin_index(sheets: &[SheetAreas]) -> usize
 // The first fittest sheet.
 pub fn best_donor_bin_index(sheets: &[SheetAreas]) -> usize
     requires { 0 < length sheets.now }
-    ensures { (bins : List GuillotineSheet) → sheets.now ≡ map areas_of bins → IsBestDonor bins result }
+    ensures { IsFirstBest fitter sheets.now result }
 {
     first_best(sheets, scores::is_fitter)
 }

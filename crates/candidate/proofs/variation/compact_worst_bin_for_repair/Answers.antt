@@ -7,6 +7,7 @@ use Rattle.candidate.specs.declared.Candidate.{Candidate as Words}
 use Rattle.candidate.specs.Stands.{candidate_in}
 use Rattle.candidate.specs.OnSheets.{IsWorst}
 use Rattle.candidate.specs.Compact.{put_back, apart}
+use Rattle.candidate.proofs.evaluation.BestIndex.{worst_index}
 use Rattle.candidate.proofs.variation.Sheets.{index_known, areas_count}
 use Rattle.candidate.proofs.variation.Compacting.{compacted_by, compacted_one}
 use Rattle.candidate.proofs.variation.compact_worst_bin_for_repair.Goals as goal
@@ -14,7 +15,7 @@ use Rattle.candidate.proofs.variation.compact_worst_bin_for_repair.Goals.{After-
 
 -- the index of the least fit sheet
 worst : (c : After-worst_bin_index-index) → IsWorst (candidate_in c.args.inst.now c.args.c.now).bins c.worst_bin_index-index.result
-worst c = c.worst_bin_index-index.ensures (candidate_in c.args.inst.now c.args.c.now).bins (c.as_slice.ensures.value ∙ c.sheet_areas-areas.ensures)
+worst c = worst_index c.as_slice.result.now (candidate_in c.args.inst.now c.args.c.now).bins (c.as_slice.ensures.value ∙ c.sheet_areas-areas.ensures) c.worst_bin_index-index.result c.worst_bin_index-index.ensures
 
 known : (c : After-worst_bin_index-index) → (c.worst_bin_index-index.result < length c.stock-stock.result.now) × (length c.stock-stock.result.now ≤ 64)
 known c =

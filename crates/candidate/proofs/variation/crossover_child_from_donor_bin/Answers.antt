@@ -10,6 +10,7 @@ use Rattle.candidate.specs.declared.Candidate.{Candidate as Words}
 use Rattle.candidate.specs.OnSheets.{best_donor}
 use Rattle.candidate.specs.Children.{child_in}
 use Rattle.candidate.specs.Stands.{candidate_in}
+use Rattle.candidate.proofs.evaluation.BestIndex.{donor_index}
 use Rattle.candidate.proofs.variation.Crossed.{no_donor}
 use Rattle.candidate.proofs.variation.Sheets.{areas_count, no_bins}
 use Rattle.candidate.proofs.variation.crossover_child_from_donor_bin.Goals as goal
@@ -35,5 +36,5 @@ pub child_of_sheet-requires : goal.child_of_sheet-requires
 child_of_sheet-requires c = (
   c.requires.0,
   c.requires.1,
-  c.best_donor_bin_index-index.ensures (candidate_in c.args.inst.now c.args.right.now).bins (c.as_slice.ensures.value ∙ c.sheet_areas-areas.ensures),
+  donor_index c.as_slice.result.now (candidate_in c.args.inst.now c.args.right.now).bins (c.as_slice.ensures.value ∙ c.sheet_areas-areas.ensures) c.best_donor_bin_index-index.result c.best_donor_bin_index-index.ensures,
 )
