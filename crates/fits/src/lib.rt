@@ -4,7 +4,8 @@
 ghost use Rattle.std.specs.Prelude.{◌≡◌, ◌&&◌, leb};
 ghost use Rattle.model.specs.Fit.{upright_result, rotated_result, fit_cut_in_rects, cut_fits_stock};
 ghost use Rattle.fits.specs.FitList.{fits_of};
-ghost use Rattle.fits.specs.ByWays.{lies_any_way, fits_by_ways};
+ghost use Rattle.fits.specs.Orientation.{ways_to_lie};
+ghost use Rattle.fits.specs.ByWays.{lies_any_way, fits_in_order};
 
 pub mod patterns; // Patterns of cuts and boards, and the ways to lie that they leave open
 pub mod choice; // How well a piece lies in a free rectangle, and in which direction the rest is split
@@ -59,14 +60,14 @@ fn rotated_result(cut: CutInstance, free_rect: Rect) -> FitResult
 }
 
 // The fits in the ways that are open, the preferred way first: what is left of `fit_cut_in_rects` once the ways are known.
-#[tactic(auto, unfolding(crate::specs::ByWays::fits_by_ways, crate::specs::ByWays::lies_upright, crate::specs::ByWays::lies_rotated, crate::specs::FitList::if_lies))]
+#[tactic(auto, unfolding(crate::specs::ByWays::fits_in_order, crate::specs::ByWays::lies_upright, crate::specs::ByWays::lies_rotated, crate::specs::FitList::if_lies))]
 pub fn fits_by_ways(
     ways: Ways,
     cut: CutInstance,
     free_rect: Rect,
     rotation: RotationPreference,
 ) -> [Option<FitResult>; 2]
-    ensures { fits_of result ≡ fits_by_ways ways cut free_rect rotation }
+    ensures { result ≡ fits_in_order ways cut free_rect rotation }
 {
     let Rect { width, length, .. } = free_rect;
     let upright = lies(ways.upright, cut.width, cut.length, width, length).then_some(upright_result(
@@ -88,7 +89,8 @@ pub fn fit_cut_in_rects(
     free_rect: Rect,
     rotation: RotationPreference,
 ) -> [Option<FitResult>; 2]
-    ensures { fits_of result ≡ fit_cut_in_rects cut stock_pattern free_rect rotation }
+    ensures fits { fits_of result ≡ fit_cut_in_rects cut stock_pattern free_rect rotation }
+    ensures order { result ≡ fits_in_order (ways_to_lie cut stock_pattern) cut free_rect rotation }
 {
     let ways = patterns::ways_to_lie(cut, stock_pattern);
     fits_by_ways(ways, cut, free_rect, rotation)
