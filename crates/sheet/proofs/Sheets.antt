@@ -1,13 +1,14 @@
 -- An insertion into the free rectangles is the definition's insertion into every sheet that has them; and what a caller needs to go on.
 use Rattle.std.specs.Prelude.{None, Some}
+use Rattle.std.specs.Prelude as Language
 use Prim.Native.Nat.{ℕ, ◌≤◌}
 use native.Mathlib.Omega.{arith}
 use mathlib.Core.Path.{◌≡◌, refl, sym, ap, ◌∙◌}
 use mathlib.Core.Bool.{Bool}
 use mathlib.Core.List.{List, [], ◌∷◌, ◌++◌}
-use mathlib.Core.Option.{none, some, some-injective}
+use mathlib.Core.Option.{Option, none, some, some-injective}
 use lib.ListN.{length}
-use Rattle.lists.specs.Base.{swap_remove}
+use Rattle.lists.specs.Base.{◌>>=◌, swap_remove}
 use Rattle.lists.proofs.Perm.{all_append}
 use Rattle.lists.proofs.Every.{all_get}
 use Rattle.model.specs.declared.PatternDirection.{PatternDirection}
@@ -20,64 +21,86 @@ use Rattle.model.specs.Types.{no_rect, stock_rect}
 use Rattle.model.specs.Refusal.{most_side}
 use Rattle.model.specs.Split.{split_direction, split_free_rect}
 use Rattle.model.specs.Merge.{find_pair, find_right, merge_free_rects, merges_any}
-use Rattle.model.specs.Sheet.{GuillotineSheet, Insertion, Place, new_sheet, best_place, split_rects, insert_at, try_insert}
+use Rattle.model.specs.Sheet.{GuillotineSheet, Insertion, Place, new_sheet, places, best_place, split_rects, insert_at, try_insert}
 use Rattle.trust.proofs.Placing.{Good, best_place_good}
 use Rattle.trust.proofs.Merging.{merge_rounds_done}
 use Rattle.fits.specs.declared.choice.Score.{Score}
 use Rattle.sheet.specs.Bounds.{Small, Inside}
 use Rattle.sheet.proofs.split.Remainders.{split_small, swap_small}
 use Rattle.sheet.proofs.merging.Rounds.{rounds_small}
-use Rattle.sheet.specs.Places.{place_at, Shows, FindsBest}
+use Rattle.sheet.specs.Places.{place_at, Shows, sheet_with, FindsBest}
+use Rattle.sheet.specs.declared.Inserted.{Inserted}
 use Rattle.sheet.specs.Insertions.{Ready, At, split_by, Replaces, InsertsInto, Inserts}
 
 -- ---- what the answer of the search says
-
--- a sheet that has the rectangles
-shown : List Rect → PatternDirection → GuillotineSheet
-shown free pattern =
-    record {
-      stock = record { stock_id = 0; instance = 0; width = 0; length = 0; pattern = pattern };
-      free_rects = free;
-      placed_pieces = [];
-      slicing_tree = none;
-    }
 
 module _ (kerf : ℕ) (pattern : PatternDirection) (cut : CutInstance) (h : BaselineGuillotineHeuristic) (free : List Rect) where
   -- no place: the rectangles stay
   pub stays : FindsBest free cut pattern h None → Inserts kerf pattern cut h free free None
   unfolding try_insert
-  stays f = λ s v.
-      let e = f.place s v in
-      record { place = e; merged = rw (← e); rects = rw (← e) }
+  stays f = record { place = f.place; merged = rw (← f.place); rects = rw (← f.place) }
 
   module _ (i : ℕ) (r : Rect) (q : FitResult) (score : Score) (f : FindsBest free cut pattern h (Some (record { index = i; free_rect = r; fit = q; score = score }))) where
-    good : Good (shown free pattern) (record { cut = cut; heuristic = h }) (place_at i r q)
-    unfolding shown
-    good = best_place_good (shown free pattern) (record { cut = cut; heuristic = h }) (place_at i r q) (sym (f.place (shown free pattern) (record { rects = refl; grain = refl })))
+    good : Good (sheet_with free pattern) (record { cut = cut; heuristic = h }) (place_at i r q)
+    good = best_place_good (sheet_with free pattern) (record { cut = cut; heuristic = h }) (place_at i r q) (sym f.place)
 
     pub found_at : At free i r
-    unfolding shown
     found_at = record { inside = good.inside; there = good.there }
 
     pub found_inside : Inside q.rect r
     found_inside = record { across = good.fits.corner.width; along = good.fits.corner.length }
 
-    split_same : (s : GuillotineSheet) → Shows free pattern s
-        → split_by kerf i r q.rect (split_direction r q.rect h.split) free ≡ split_rects kerf s (record { cut = cut; heuristic = h }) (place_at i r q)
+    split_same : split_by kerf i r q.rect (split_direction r q.rect h.split) free ≡ split_rects kerf (sheet_with free pattern) (record { cut = cut; heuristic = h }) (place_at i r q)
     unfolding split_rects split_by
-    split_same s v = rw v.rects
+    split_same = refl
 
     pub inserts : (after : List Rect) (m : Bool) → Replaces kerf (split_by kerf i r q.rect (split_direction r q.rect h.split) free) after m
         → Inserts kerf pattern cut h free after (Some (record { index = i; free_rect = r; fit = q; merged = m }))
     unfolding try_insert insert_at
-    inserts after m k = λ s t.
-        let b = f.place s t in
-        let same = split_same s t in
+    inserts after m k =
         record {
-          place = b;
-          merged = rw (← b) (ap some (k.any ∙ ap (merges_any kerf) same));
-          rects = rw (← b) (k.rects ∙ ap (merge_free_rects kerf) same);
+          place = f.place;
+          merged = rw (← f.place) (ap some (k.any ∙ ap (merges_any kerf) split_same));
+          rects = rw (← f.place) (k.rects ∙ ap (merge_free_rects kerf) split_same);
         }
+
+-- ---- every sheet that has the rectangles
+
+module _ (kerf : ℕ) (pattern : PatternDirection) (cut : CutInstance) (h : BaselineGuillotineHeuristic) (free : List Rect) (s : GuillotineSheet) (shows : Shows free pattern s) where
+  abbrev i : Insertion
+  i = record { cut = cut; heuristic = h }
+
+  abbrev bare : GuillotineSheet
+  bare = sheet_with free pattern
+
+  best_same : best_place bare i ≡ best_place s i
+  unfolding best_place places
+  best_same = rw (shows.rects, shows.grain)
+
+  split_any : (p : Place) → split_rects kerf bare i p ≡ split_rects kerf s i p
+  unfolding split_rects
+  split_any p = rw shows.rects
+
+  merged_rects : (p : Place) → (insert_at kerf bare i p).free_rects ≡ (insert_at kerf s i p).free_rects
+  unfolding insert_at
+  merged_rects p = ap (merge_free_rects kerf) (split_any p)
+
+  pub into_any : (after : List Rect) (r : Language.Option Inserted) → Inserts kerf pattern cut h free after r → InsertsInto kerf s i free after r
+  unfolding try_insert
+  into_any after r t =
+      record {
+        place = t.place ∙ best_same;
+        merged = t.merged ∙ any (best_place bare i) ∙ ap (λ (o : Option Place). o >>= λ p. some (merges_any kerf (split_rects kerf s i p))) best_same;
+        rects = t.rects ∙ rects (best_place bare i) ∙ ap (λ (o : Option Place). elim (o >>= λ p. some (insert_at kerf s i p)) [ none ↦ free | some t ↦ t.free_rects ]) best_same;
+      }
+    where
+      any : (o : Option Place) → (o >>= λ p. some (merges_any kerf (split_rects kerf bare i p))) ≡ (o >>= λ p. some (merges_any kerf (split_rects kerf s i p)))
+      any none = refl
+      any (some p) = ap (λ (l : List Rect). some (merges_any kerf l)) (split_any p)
+
+      rects : (o : Option Place) → ◌≡◌ {A = List Rect} (elim (o >>= λ p. some (insert_at kerf bare i p)) [ none ↦ free | some t ↦ t.free_rects ]) (elim (o >>= λ p. some (insert_at kerf s i p)) [ none ↦ free | some t ↦ t.free_rects ])
+      rects none = refl
+      rects (some p) = merged_rects p
 
 -- ---- what a caller needs to go on
 
@@ -115,9 +138,7 @@ module _ (kerf : ℕ) (s : GuillotineSheet) (i : Insertion) where
 
 pub untouched : (kerf : ℕ) (pattern : PatternDirection) (cut : CutInstance) (h : BaselineGuillotineHeuristic) (free after : List Rect)
     → Inserts kerf pattern cut h free after None → after ≡ free
-unfolding shown
-untouched kerf pattern cut h free after t =
-    (inserts_nothing kerf (shown free pattern) (record { cut = cut; heuristic = h }) free after (t (shown free pattern) (record { rects = refl; grain = refl }))).1
+untouched kerf pattern cut h free after t = (inserts_nothing kerf (sheet_with free pattern) (record { cut = cut; heuristic = h }) free after t).1
 
 -- the answer `Some`: the sheet that the definition makes, which has the rectangles then, ready for the next
 pub record Placed (kerf : ℕ) (s : GuillotineSheet) (i : Insertion) (p : Place) (m : Bool) (after : List Rect) : Type 0 where

@@ -16,7 +16,7 @@ use Rattle.model.specs.Sheet.{GuillotineSheet, Insertion, Place, best_place, spl
 use Rattle.sheet.specs.Bounds.{Small}
 use Rattle.sheet.specs.declared.Inserted.{Inserted}
 use Rattle.sheet.specs.declared.free_rects.TheConstants.{MOST_RECTS}
-use Rattle.sheet.specs.Places.{place_at, Shows}
+use Rattle.sheet.specs.Places.{place_at, sheet_with}
 
 -- ---- what an insertion needs
 
@@ -63,7 +63,6 @@ pub record InsertsInto (kerf : ℕ) (s : GuillotineSheet) (i : Insertion) (befor
   pub merged : merged_in r ≡ (best_place s i >>= λ p. Defined.some (merges_any kerf (split_rects kerf s i p)))
   pub rects : after ≡ (elim (try_insert kerf s i) [ Defined.none ↦ before | Defined.some t ↦ t.free_rects ])
 
--- the same into any sheet that has the rectangles
+-- the same into the sheet that has nothing but the rectangles; so into every sheet that has them (`into_any`)
 abbrev pub Inserts : ℕ → PatternDirection → CutInstance → BaselineGuillotineHeuristic → (before after : List Rect) → Option Inserted → Type 0
-Inserts kerf pattern cut h before after r =
-    (s : GuillotineSheet) → Shows before pattern s → InsertsInto kerf s (record { cut = cut; heuristic = h }) before after r
+Inserts kerf pattern cut h before after r = InsertsInto kerf (sheet_with before pattern) (record { cut = cut; heuristic = h }) before after r

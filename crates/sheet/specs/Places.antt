@@ -57,7 +57,17 @@ pub record Shows (free : List Rect) (pattern : PatternDirection) (sheet : Guillo
   pub rects : sheet.free_rects ≡ free
   pub grain : sheet.stock.pattern ≡ pattern
 
--- the best place of the cut on any sheet that has these rectangles
+-- the sheet that has nothing but the rectangles, on a board of no size
+abbrev pub sheet_with : List Rect → PatternDirection → GuillotineSheet
+sheet_with rects pattern =
+    record {
+      stock = record { stock_id = 0; instance = 0; width = 0; length = 0; pattern = pattern };
+      free_rects = rects;
+      placed_pieces = [];
+      slicing_tree = Defined.none;
+    }
+
+-- the best place of the cut among the rectangles
 pub record FindsBest (rects : List Rect) (cut : CutInstance) (pattern : PatternDirection) (h : BaselineGuillotineHeuristic) (r : Option ScoredPlace) : Type 0 where
-  pub place : (s : GuillotineSheet) → Shows rects pattern s → place_of r ≡ best_place s (record { cut = cut; heuristic = h })
+  pub place : place_of r ≡ best_place (sheet_with rects pattern) (record { cut = cut; heuristic = h })
   pub scored : Scored h r

@@ -16,6 +16,7 @@ use Rattle.model.specs.declared.Rect.{Rect}
 use Rattle.model.specs.Sheet.{GuillotineSheet, Insertion, Place, best_place, insert_at, try_insert}
 use Rattle.sheet.specs.declared.Inserted.{Inserted}
 use Rattle.sheet.specs.Insertions.{place_in, Inserts}
+use Rattle.sheet.proofs.Sheets.{into_any}
 use Rattle.candidate.specs.Bins.{rects_on, with_bin}
 use Rattle.candidate.specs.Fitting.{InsertsOn, InsertsOnBoard}
 
@@ -37,7 +38,7 @@ pub inserts_on_board : (free : List (List Rect)) (board kerf : ℕ) (pattern : P
     → InsertsOnBoard kerf pattern (record { cut = cut; heuristic = h }) board free (set free board rects) r
 inserts_on_board free board kerf pattern cut h rects x r e f = λ s shows.
     let i : Insertion = record { cut = cut; heuristic = h } in
-    let into = f s shows in
+    let into = into_any kerf pattern cut h (rects_on free board) s shows rects x f in
     record {
       answer = e ∙ some_place x ∙ ap is_some into.place ∙ found kerf s i;
       rects = written (try_insert kerf s i) into.rects;

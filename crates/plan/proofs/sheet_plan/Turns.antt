@@ -26,6 +26,7 @@ use Rattle.trust.specs.Proper.{Bounded}
 use Rattle.sheet.specs.declared.Inserted.{Inserted}
 use Rattle.sheet.specs.Places.{Shows}
 use Rattle.sheet.specs.Insertions.{Insertable, InsertsInto, Inserts}
+use Rattle.sheet.proofs.Sheets.{into_any}
 use Rattle.candidate.specs.Entries.{board_of, cut_of, heuristic_of}
 use Rattle.candidate.specs.Stands.{insertion_in, bin_in}
 use Rattle.project.specs.Problem.{board_in, cut_in, no_cut}
@@ -99,7 +100,7 @@ module _ (inst : ProblemInstance) (words : List ℕ) (b : ℕ) (m : Replayable i
       module _ (w' : List Rect) (res : Language.Option Inserted) (ends : Inserts inst.kerf_width pattern cut row w w' res) where
         into : (q : Language.Option Inserted) → res ≡ q → InsertsInto inst.kerf_width s insertion w w' q
         unfolding insertion
-        into q e = rw e at (ends s shown)
+        into q e = rw e at (into_any inst.kerf_width pattern cut row w s shown w' res ends)
 
         never : res ≡ None → ⊥
         never e = not_nothing inst.kerf_width s t insertion w g p state bounded step w' (into None e)

@@ -171,6 +171,6 @@ module _ (l : List Rect) (ways : Ways) (cut : CutInstance) (h : BaselineGuilloti
   unfolding best_over best_place places
   seen_all pattern r e o =
       record {
-        place = λ s v. rw (take_all (length l) l (omega arith), e, places_all cut pattern h.rotation 0 l, ← v.rects, ← v.grain) at o.place;
+        place = rw (take_all (length l) l (omega arith), e, places_all cut pattern h.rotation 0 l) at o.place;
         scored = o.scored;
       }
