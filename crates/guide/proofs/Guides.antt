@@ -8,7 +8,7 @@ use mathlib.Core.Path.{◌≡◌, refl, sym, ap, ap₂, ◌∙◌, subst}
 use mathlib.Core.Bool.{Bool, true, false}
 use mathlib.Core.List.{List, [], ◌∷◌, ◌++◌, append_assoc}
 use mathlib.Core.Option.{Option, none, some}
-use Prim.Native.Nat.{ℕ, ◌+◌, ◌≤◌, ◌<◌}
+use Prim.Native.Nat.{ℕ, ◌+◌, ◌≤◌}
 use native.Mathlib.Omega.{arith}
 use lib.ListN.{length, drop, length-append}
 use lib.Seq.{take_at, drop_at}
@@ -20,11 +20,14 @@ use Rattle.model.specs.Guide.{SliceNode, leaf, free, insert_subtree, replace_fre
 use Rattle.guide.specs.declared.subtree.Node.{Node}
 use Rattle.guide.specs.declared.subtree.CutOff.{CutOff}
 use Rattle.guide.specs.declared.subtree.Subtree.{Subtree}
-use Rattle.guide.specs.Nodes.{around, subtree_nodes, guide_nodes, tree_nodes}
+use Rattle.guide.specs.Nodes.{around, subtree_nodes, subtree_of, guide_nodes, tree_nodes, InCorner}
 use Rattle.guide.proofs.subtree.Trees.{guide_nodes_some, guide_nodes_none, tree_nodes_leaf}
-use Rattle.guide.specs.Leaves.{is_free_leaf, size, Finds}
+use Rattle.guide.specs.Leaves.{is_free_leaf, leaf_among, free_leaf}
 use Rattle.guide.specs.Splices.{spliced}
-use Rattle.guide.specs.Guides.{Becomes, ReplacesLeaf, split_guide, next_guide}
+use Rattle.guide.specs.Guides.{split_guide, next_guide, replaced_at, leaf_replaced, next_nodes}
+use Rattle.guide.proofs.subtree.Cuts.{subtree_is}
+use Rattle.guide.proofs.free_leaf.Sizes.{size}
+use Rattle.guide.proofs.free_leaf.Searches.{finds}
 use Rattle.guide.proofs.Outcomes.{Spliced, first_of, outcome}
 
 -- ---- a new guide
@@ -62,56 +65,52 @@ spliced_is front back others n i e =
     ap₂ (λ (a b : List Node). a ++ (others ++ b)) (take_at front (n ∷ back) i e)
     (ap (drop (i + 1)) (sym (append_assoc front (n ∷ []) back)) ∙ drop_at (front ++ (n ∷ [])) back (i + 1) (omega (arith, e, length-append front (n ∷ []))))
 
-module _ (nodes : List Node) (target : Rect) (found : Language.Option ℕ) (ends : Finds nodes target found) where
-  place_of : (t : SliceNode) → nodes ≡ guide_nodes (some t) → found ≡ position (is_free_leaf target) (tree_nodes t)
-  place_of t h =
-      let is : nodes ≡ tree_nodes t = h ∙ guide_nodes_some t in
-      ends.finds t is ∙ ap (position (is_free_leaf target)) is
+module _ (nodes : List Node) (target : Rect) (t : SliceNode) (h : nodes ≡ guide_nodes (some t)) where
+  place_of : free_leaf target nodes ≡ position (is_free_leaf target) (tree_nodes t)
+  place_of = ap (free_leaf target) (h ∙ guide_nodes_some t) ∙ finds target t
 
-  spliced_at : (i : ℕ) (node t : SliceNode) → found ≡ Some i → nodes ≡ guide_nodes (some t) → Spliced target i node t
-  spliced_at i node t e h =
+  spliced_at : (i : ℕ) (node : SliceNode) → free_leaf target nodes ≡ Some i → Spliced target i node t
+  spliced_at i node e =
       let first : ℕ = first_of target t in
-      let p = cond_some (ltb first (size t)) first i (sym (place_of t h) ∙ e) in
+      let p = cond_some (ltb first (size t)) first i (sym place_of ∙ e) in
       subst (λ (m : ℕ). Spliced target m node t) p.1 ((outcome target node t).found (ltb-true first (size t) p.0))
 
-  replaced_none : (node t : SliceNode) → found ≡ None → nodes ≡ guide_nodes (some t) → replace_free_leaf t target node ≡ none
-  replaced_none node t e h =
+  replaced_none : (node : SliceNode) → free_leaf target nodes ≡ None → replace_free_leaf t target node ≡ none
+  replaced_none node e =
       let first : ℕ = first_of target t in
-      (outcome target node t).none_found (ltb-false first (size t) (some_at (ltb first (size t)) first (sym (place_of t h) ∙ e)))
+      (outcome target node t).none_found (ltb-false first (size t) (some_at (ltb first (size t)) first (sym place_of ∙ e)))
 
-  pub found_below : (i : ℕ) → found ≡ Some i → i < length nodes
-  found_below i e = rw e at ends.within
-
-  pub replaces_none : found ≡ None → (after : List Node) → after ≡ [] → (s : Subtree) → ReplacesLeaf nodes after target s
-  replaces_none e after empty s = record { replaced = λ node f. record { became = λ g h. empty ∙ sym (ap guide_nodes (go node g h) ∙ guide_nodes_none) } }
+  replaces : (node : SliceNode) (others : List Node) → others ≡ tree_nodes node → leaf_replaced target others nodes ≡ guide_nodes (replace_free_leaf t target node)
+  replaces node others f = go (free_leaf target nodes) refl
     where
-      go : (node : SliceNode) (g : Option SliceNode) → nodes ≡ guide_nodes g → (g >>= λ tree. replace_free_leaf tree target node) ≡ none
-      go node none h = refl
-      go node (some t) h = replaced_none node t e h
-
-  pub replaces_at : (i : ℕ) (after : List Node) (s : Subtree) → found ≡ Some i → after ≡ spliced nodes i (subtree_nodes s) → ReplacesLeaf nodes after target s
-  replaces_at i after s e made = record { replaced = λ node f. record { became = go node f } }
-    where
-      go : (node : SliceNode) → tree_nodes node ≡ subtree_nodes s → (g : Option SliceNode) → nodes ≡ guide_nodes g → after ≡ guide_nodes (g >>= λ tree. replace_free_leaf tree target node)
-      go node f none h = absurd (let i = found_below i e in omega (arith, ap length (h ∙ guide_nodes_none)))
-      go node f (some t) h =
-          let p = spliced_at i node t e h in
-          made
-          ∙ ap (λ (l : List Node). spliced l i (subtree_nodes s)) (h ∙ guide_nodes_some t ∙ p.was)
-          ∙ spliced_is p.front p.back (subtree_nodes s) (Node.Free target) i p.place
-          ∙ ap (λ (l : List Node). p.front ++ (l ++ p.back)) (sym f)
+      go : (found : Language.Option ℕ) → free_leaf target nodes ≡ found → replaced_at found others nodes ≡ guide_nodes (replace_free_leaf t target node)
+      go None e = sym (ap guide_nodes (replaced_none node e) ∙ guide_nodes_none)
+      go (Some i) e =
+          let p = spliced_at i node e in
+          ap (λ (l : List Node). spliced l i others) (h ∙ guide_nodes_some t ∙ p.was)
+          ∙ spliced_is p.front p.back others (Node.Free target) i p.place
+          ∙ ap (λ (l : List Node). p.front ++ (l ++ p.back)) f
           ∙ sym (ap guide_nodes p.made ∙ guide_nodes_some p.after ∙ p.is)
 
--- ---- the step of an insertion
+no_leaf : (target : Rect) (others nodes : List Node) → nodes ≡ [] → leaf_replaced target others nodes ≡ []
+unfolding leaf_among
+no_leaf target others nodes e = ap (leaf_replaced target others) e
 
-module _ (nodes after : List Node) (d : Direction) (kerf : ℕ) (f p : Rect) (c : CutInstance) where
-  pub merged_none : (m : Bool) → m ≡ true → after ≡ [] → Becomes nodes after (next_guide m d kerf f p c)
-  merged_none m e empty = record { became = λ g h. rw e (empty ∙ sym guide_nodes_none) }
+-- ---- the step of an insertion: what it makes of a guide's nodes is what the definition makes of the guide
 
-  pub split_becomes : (m : Bool) → m ≡ false → (s : Subtree) → subtree_nodes s ≡ guide_nodes (insert_subtree d kerf f p c) → ReplacesLeaf nodes after f s → Becomes nodes after (next_guide m d kerf f p c)
+module _ (d : Direction) (kerf : ℕ) (f p : Rect) (c : CutInstance) (corner : InCorner f p) where
+  split : (nodes : List Node) (g : Option SliceNode) → nodes ≡ guide_nodes g → next_nodes false d kerf f p c nodes ≡ guide_nodes (split_guide d kerf f p c g)
   unfolding split_guide
-  split_becomes m e s q x = record { became = λ g h. rw e (go (insert_subtree d kerf f p c) q g h) }
+  split nodes none h = no_leaf f _ nodes (h ∙ guide_nodes_none) ∙ sym guide_nodes_none
+  split nodes (some t) h = go (insert_subtree d kerf f p c) (subtree_is kerf f p corner d c)
     where
-      go : (o : Option SliceNode) → subtree_nodes s ≡ guide_nodes o → (g : Option SliceNode) → nodes ≡ guide_nodes g → after ≡ guide_nodes (g >>= λ tree. o >>= λ subtree. replace_free_leaf tree f subtree)
-      go none z g h = absurd (subtree_some s (z ∙ guide_nodes_none))
-      go (some node) z g h = (x.replaced node (sym (z ∙ guide_nodes_some node))).became g h
+      s : Subtree
+      s = subtree_of d kerf f p c
+
+      go : (o : Option SliceNode) → subtree_nodes s ≡ guide_nodes o → leaf_replaced f (subtree_nodes s) nodes ≡ guide_nodes (o >>= λ subtree. replace_free_leaf t f subtree)
+      go none e = absurd (subtree_some s (e ∙ guide_nodes_none))
+      go (some node) e = replaces nodes f t h node (subtree_nodes s) (e ∙ guide_nodes_some node)
+
+  pub next_nodes_are : (merged : Bool) (nodes : List Node) (g : Option SliceNode) → nodes ≡ guide_nodes g → next_nodes merged d kerf f p c nodes ≡ guide_nodes (next_guide merged d kerf f p c g)
+  next_nodes_are true nodes g h = sym guide_nodes_none
+  next_nodes_are false nodes g h = split nodes g h

@@ -18,8 +18,8 @@ use Rattle.trust.proofs.Guide.{same_rect_eq}
 use Rattle.guide.specs.declared.subtree.Node.{Node}
 use Rattle.guide.specs.Nodes.{node_of, tree_nodes}
 use Rattle.guide.proofs.subtree.Trees.{tree_nodes_cut, tree_nodes_leaf}
-use Rattle.guide.specs.Leaves.{is_free_leaf, size}
-use Rattle.guide.proofs.free_leaf.Sizes.{size_cut, size_leaf}
+use Rattle.guide.specs.Leaves.{is_free_leaf}
+use Rattle.guide.proofs.free_leaf.Sizes.{size, size_cut, size_leaf}
 
 -- ---- the first place in two lists
 

@@ -1,11 +1,13 @@
 -- The nodes of a guide in preorder, and those of an insertion's subtree.
-use Rattle.std.specs.Prelude.{ℕ, ◌+◌, ◌≤◌, ◌<◌, ◌≡◌, List, [], ◌∷◌, ◌++◌, map, Option, None, Some, option_to_list}
+use Rattle.std.specs.Prelude.{ℕ, ◌+◌, ◌≤◌, ◌<◌, List, [], ◌∷◌, ◌++◌, map, Option, None, Some}
 use Rattle.std.proofs.Math.Option as Defined
 use Rattle.model.specs.declared.Rect.{Rect}
 use Rattle.model.specs.declared.Direction.{Direction}
 use Rattle.model.specs.Refusal.{most_side}
-use Rattle.model.specs.Types.{no_rect}
-use Rattle.model.specs.Guide.{SliceNode, cut, leaf, free, cut_piece, span, cut_off}
+use Rattle.model.specs.Types.{no_rect, rect, cut_key}
+use Rattle.model.specs.Split.{bottom_remainder, right_remainder}
+use Rattle.model.specs.declared.CutInstance.{CutInstance}
+use Rattle.model.specs.Guide.{SliceNode, cut, leaf, free, cut_piece}
 use Rattle.model.specs.Plan.{node_words, preorder, nodes_of}
 use Rattle.guide.specs.declared.subtree.Node.{Node}
 use Rattle.guide.specs.declared.subtree.Node.TheVariants as node
@@ -55,12 +57,22 @@ pub record InCorner (free_rect placed : Rect) : Type 0 where
   pub right : free_rect.x + free_rect.width ≤ most_side
   pub bottom : free_rect.y + free_rect.length ≤ most_side
 
--- what Cut::new asks of the cut of a remainder
-abbrev pub Cuttable : Rect → Direction → ℕ → ℕ → List Rect → Type 0
-Cuttable work orientation offset kerf [] = Unit {0}
-Cuttable work orientation offset kerf (r ∷ rs) =
-    (0 < work.width) × (0 < work.length) × (0 < offset) × (offset + kerf < span orientation work)
+-- a remainder cut off from the work rectangle, where there is one
+abbrev pub cut_off_of : Rect → Direction → ℕ → ℕ → List Rect → Option CutOff
+cut_off_of work orientation offset kerf [] = None
+cut_off_of work orientation offset kerf (r ∷ rs) = Some (record { cut = node.Cut work orientation offset kerf; remainder = node.Free r })
 
--- the cut and the remainder around any node that a remainder is cut off from
-pub record CutsOff (work : Rect) (orientation : Direction) (offset kerf : ℕ) (remainder : Option Rect) (c : Option CutOff) : Type 0 where
-  pub nodes : (tree : SliceNode) → guide_nodes (cut_off work orientation offset kerf (option_to_list remainder) tree) ≡ around c (tree_nodes tree)
+-- an insertion's subtree: the outer cut takes off the remainder that has the whole side
+unfoldable pub subtree_of : Direction → ℕ → Rect → Rect → CutInstance → Subtree
+subtree_of Direction.Horizontal kerf free_rect placed c =
+    record {
+      outer = cut_off_of free_rect Direction.Horizontal placed.length kerf (bottom_remainder kerf free_rect placed free_rect.width);
+      inner = cut_off_of (rect free_rect.x free_rect.y free_rect.width placed.length) Direction.Vertical placed.width kerf (right_remainder kerf free_rect placed placed.length);
+      piece = node.Piece placed (cut_key c);
+    }
+subtree_of Direction.Vertical kerf free_rect placed c =
+    record {
+      outer = cut_off_of free_rect Direction.Vertical placed.width kerf (right_remainder kerf free_rect placed free_rect.length);
+      inner = cut_off_of (rect free_rect.x free_rect.y placed.width free_rect.length) Direction.Horizontal placed.length kerf (bottom_remainder kerf free_rect placed placed.width);
+      piece = node.Piece placed (cut_key c);
+    }

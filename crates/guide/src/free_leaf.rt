@@ -1,7 +1,7 @@
 // The search for a free leaf among the nodes of a guide, which are in preorder: a cut before its first and its second child.
 
 ghost use Rattle.std.specs.Prelude.{◌≡◌};
-ghost use Rattle.guide.specs.Leaves.{is_free_leaf, Searched, Finds};
+ghost use Rattle.guide.specs.Leaves.{is_free_leaf, leaf_behind, free_leaf};
 
 use super::subtree::Node;
 use model::Rect;
@@ -20,7 +20,7 @@ fn is_free_leaf(node: &Node, target: Rect) -> bool
 // In the tree whose root is node `at`, first child before second. `Break(n)`: node n is the leaf. `Continue(n)`: the tree has no such leaf and ends before
 // node n. Children come after their parent, so the number of nodes left falls. The nodes run out only where they are no tree's.
 fn free_leaf_from(nodes: &[Node], at: usize, target: Rect) -> ControlFlow<usize, usize>
-    ensures { Searched nodes.now at target result }
+    ensures { result ≡ leaf_behind target at nodes.now }
 {
     let Some(node) = nodes.get(at) else {
         return ControlFlow::Continue(at);
@@ -38,7 +38,7 @@ fn free_leaf_from(nodes: &[Node], at: usize, target: Rect) -> ControlFlow<usize,
 
 // The number of the first node that is a free leaf of this rectangle, among the nodes of a whole tree.
 pub fn find_free_leaf(nodes: &[Node], target: Rect) -> Option<usize>
-    ensures { Finds nodes.now target result }
+    ensures { result ≡ free_leaf target nodes.now }
 {
     free_leaf_from(nodes, 0, target).break_value()
 }

@@ -5,7 +5,7 @@ ghost use Rattle.std.specs.Prelude.{◌≡◌, ◌+◌, ◌≤◌, ◌<◌, leng
 ghost use Rattle.std.proofs.Math.Option.{some};
 ghost use Rattle.model.specs.Guide.{leaf, free};
 ghost use Rattle.guide.specs.Nodes.{subtree_nodes, guide_nodes, InCorner};
-ghost use Rattle.guide.specs.Guides.{Becomes, ReplacesLeaf, next_guide};
+ghost use Rattle.guide.specs.Guides.{leaf_replaced, next_nodes};
 
 pub mod subtree; // The nodes of a cutting guide, and the subtree that an insertion puts in the place of a free leaf
 mod free_leaf; // The search for a free leaf among the nodes of a guide, which are in preorder
@@ -28,7 +28,7 @@ pub fn new_guide<const N: usize>(guide: &mut ArrayVec<Node, N>, board: Rect)
 // The subtree takes the place of the first free leaf that is `target`; where there is none, there is no guide any more.
 fn replace_free_leaf<const N: usize>(guide: &mut ArrayVec<Node, N>, target: Rect, subtree: Subtree)
     requires { length guide.old.items + length (subtree_nodes subtree) ≤ N + 1 }
-    ensures { ReplacesLeaf guide.old.items guide.new.items target subtree }
+    ensures { guide.new.items ≡ leaf_replaced target (subtree_nodes subtree) guide.old.items }
 {
     match free_leaf::find_free_leaf(guide.as_slice(), target) {
         Some(at) => splice::splice(guide, at, subtree),
@@ -47,7 +47,7 @@ pub fn next_guide<const N: usize>(
     kerf: u32,
 )
     requires { (length guide.old.items + 4 ≤ N) × InCorner free_rect placed }
-    ensures { Becomes guide.old.items guide.new.items (next_guide merged direction kerf free_rect placed cut) }
+    ensures { guide.new.items ≡ next_nodes merged direction kerf free_rect placed cut guide.old.items }
 {
     if merged {
         guide.clear();

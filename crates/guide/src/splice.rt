@@ -2,7 +2,7 @@
 
 ghost use Rattle.std.specs.Prelude.{◌≡◌, ◌+◌, ◌≤◌, ◌<◌, [], length};
 ghost use Rattle.guide.specs.Nodes.{around, subtree_nodes};
-ghost use Rattle.guide.specs.Splices.{spliced, Surrounds};
+ghost use Rattle.guide.specs.Splices.{spliced, surrounded};
 
 use super::subtree::{CutOff, Node, Subtree};
 use arrayvec::ArrayVec;
@@ -15,7 +15,8 @@ fn surround<const N: usize>(
     c: Option<CutOff>,
 ) -> usize
     requires { (at ≤ behind) × (behind ≤ length guide.old.items) × (length guide.old.items + length (around c []) ≤ N) }
-    ensures { Surrounds guide.old.items guide.new.items at behind result c }
+    ensures nodes { guide.new.items ≡ surrounded guide.old.items at behind c }
+    ensures past { result ≡ behind + length (around c []) }
 {
     let Some(c) = c else {
         return behind;

@@ -2,9 +2,9 @@
 
 ghost use Rattle.std.specs.Prelude.{◌≡◌, option_to_list};
 ghost use Rattle.model.specs.declared.Direction.{Direction};
-ghost use Rattle.model.specs.Types.{cut_key};
-ghost use Rattle.model.specs.Guide.{insert_subtree};
-ghost use Rattle.guide.specs.Nodes.{words_of, subtree_nodes, guide_nodes, InCorner, Cuttable, CutsOff};
+ghost use Rattle.model.specs.Types.{cut_key, no_rect};
+ghost use Rattle.guide.specs.declared.subtree.Node.{Node};
+ghost use Rattle.guide.specs.Nodes.{words_of, cut_off_of, subtree_of, InCorner};
 
 use arrayvec::ArrayVec;
 use model::{CutInstance, Direction, InstanceKey, Rect};
@@ -28,7 +28,9 @@ pub enum Node {
 }
 
 impl Default for Node {
-    fn default() -> Self {
+    fn default() -> Self
+        ensures { result ≡ Node.Free no_rect }
+    {
         Node::Free(Rect {
             x: 0,
             y: 0,
@@ -95,7 +97,7 @@ pub struct Subtree {
     pub piece: Node,
 }
 
-// A remainder cut off from the work rectangle, where there is one. It is a cut that Cut::new takes.
+// A remainder cut off from the work rectangle, where there is one.
 fn cut_off(
     work: Rect,
     orientation: Direction,
@@ -103,8 +105,7 @@ fn cut_off(
     kerf: u32,
     remainder: Option<Rect>,
 ) -> Option<CutOff>
-    requires { Cuttable work orientation offset kerf (option_to_list remainder) }
-    ensures { CutsOff work orientation offset kerf remainder result }
+    ensures { result ≡ cut_off_of work orientation offset kerf (option_to_list remainder) }
 {
     let rect = remainder?;
     let cut = Node::Cut {
@@ -136,7 +137,7 @@ fn guillotine_horizontal_insert_subtree(
     kerf: u32,
 ) -> Subtree
     requires { InCorner free_rect placed }
-    ensures { subtree_nodes result ≡ guide_nodes (insert_subtree Direction.Horizontal kerf free_rect placed cut) }
+    ensures { result ≡ subtree_of Direction.Horizontal kerf free_rect placed cut }
 {
     let top = Rect {
         length: placed.length,
@@ -169,7 +170,7 @@ fn guillotine_vertical_insert_subtree(
     kerf: u32,
 ) -> Subtree
     requires { InCorner free_rect placed }
-    ensures { subtree_nodes result ≡ guide_nodes (insert_subtree Direction.Vertical kerf free_rect placed cut) }
+    ensures { result ≡ subtree_of Direction.Vertical kerf free_rect placed cut }
 {
     let left = Rect {
         width: placed.width,
@@ -197,7 +198,7 @@ pub fn guillotine_insert_subtree(
     kerf: u32,
 ) -> Subtree
     requires { InCorner free_rect placed }
-    ensures { subtree_nodes result ≡ guide_nodes (insert_subtree direction kerf free_rect placed cut) }
+    ensures { result ≡ subtree_of direction kerf free_rect placed cut }
 {
     match direction {
         Direction::Horizontal => guillotine_horizontal_insert_subtree(free_rect, placed, cut, kerf),

@@ -1,5 +1,5 @@
 -- A sheet while its making is replayed, and what each step leaves.
-use Rattle.std.specs.Prelude.{ℕ, ◌+◌, ◌*◌, ◌^◌, ◌≤◌, ◌<◌, ◌≡◌, Bool, List, length, take, drop, Option, Some, None}
+use Rattle.std.specs.Prelude.{ℕ, ◌+◌, ◌*◌, ◌/◌, ◌^◌, ◌≤◌, ◌<◌, ◌≡◌, Bool, List, map, sum, length, take, drop, Option, Some, None}
 use Rattle.std.proofs.Math.Option.{some}
 use Rattle.lists.specs.Base.{concat_map}
 use Rattle.lists.specs.Parts.{patch}
@@ -9,28 +9,28 @@ use Rattle.model.specs.declared.StockInstance.{StockInstance}
 use Rattle.model.specs.declared.CutInstance.{CutInstance}
 use Rattle.model.specs.declared.FitResult.{FitResult}
 use Rattle.model.specs.declared.BaselineGuillotineHeuristic.{BaselineGuillotineHeuristic}
-use Rattle.model.specs.Types.{area}
+use Rattle.model.specs.Types.{area, stock_area}
 use Rattle.model.specs.Refusal.{most_side}
 use Rattle.model.specs.Split.{split_direction}
 use Rattle.model.specs.Sheet.{GuillotineSheet, rebuild, placed_area}
 use Rattle.model.specs.Expand.{ProblemInstance}
-use Rattle.model.specs.Plan.{piece_words, sheet_words}
-use Rattle.trust.specs.Limits.{most_nodes}
+use Rattle.model.specs.Plan.{piece_words, rect_words, sheet_words}
+use Rattle.trust.specs.Limits.{most_area, most_nodes}
 use Rattle.trust.specs.Admitted.{BoardRange}
-use Rattle.trust.specs.Proper.{Bounded}
 use Rattle.sheet.specs.Places.{Shows}
 use Rattle.sheet.specs.declared.Inserted.{Inserted}
 use Rattle.sheet.specs.Insertions.{Ready}
 use Rattle.guide.specs.declared.subtree.Node.{Node}
-use Rattle.guide.specs.Nodes.{guide_nodes, InCorner}
-use Rattle.guide.specs.Guides.{Becomes, next_guide}
+use Rattle.guide.specs.Nodes.{words_of, guide_nodes, InCorner}
+use Rattle.guide.specs.Guides.{next_nodes}
+use Rattle.guide.specs.Saws.{node_saw}
 use Rattle.candidate.specs.Areas.{areas_of}
 use Rattle.candidate.specs.Entries.{cut_of}
 use Rattle.candidate.specs.Stands.{making_in, bin_in}
 use Rattle.project.specs.Problem.{board_in}
 use Rattle.plan.specs.declared.sheet_plan.Progress.{Progress}
 use Rattle.plan.specs.declared.sheet_plan.Body.{Body}
-use Rattle.plan.specs.Heads.{piece}
+use Rattle.plan.specs.Heads.{piece, head_words}
 
 -- the words of the pieces that a sheet has behind those of an earlier state
 unfoldable pub new_pieces : GuillotineSheet → GuillotineSheet → List ℕ
@@ -70,7 +70,7 @@ pub record Takeable (pieces : List ℕ) (guide : List Node) (free_rect : Rect) (
 pub record Takes (kerf : ℕ) (cut : CutInstance) (h : BaselineGuillotineHeuristic) (free_rect : Rect) (fit : FitResult) (merged : Bool) (p : Progress)
     (before after : List ℕ) (guide guide' : List Node) (q : Progress) : Type 0 where
   pub words : after ≡ patch before (9 * p.pieces) (piece_words (piece cut h fit))
-  pub nodes : Becomes guide guide' (next_guide merged (split_direction free_rect fit.rect h.split) kerf free_rect fit.rect cut)
+  pub nodes : guide' ≡ next_nodes merged (split_direction free_rect fit.rect h.split) kerf free_rect fit.rect cut guide
   pub pieces : q.pieces ≡ p.pieces + 1
   pub placed : q.placed ≡ p.placed + area fit.rect
 
@@ -102,18 +102,24 @@ pub record WritesSheet (s : GuillotineSheet) (before after : List ℕ) (b : Body
   pub size : b.size ≡ length (sheet_words s)
   pub areas : b.areas ≡ areas_of s
 
--- a sheet made again, whose pieces are in the part
+-- room for what follows the pieces, counts and saw in range, and a share of the board
 pub record Finishable (part : List ℕ) (rects : List Rect) (guide : List Node) (stock : StockInstance) (p : Progress) : Type 0 where
-  pub kerf : ℕ
-  pub thin : kerf ≤ most_side
-  pub sheet : GuillotineSheet
-  pub board : sheet.stock ≡ stock
-  pub state : Replayed kerf sheet rects guide p
-  pub bounded : Bounded kerf sheet
-  pub few : length sheet.placed_pieces ≤ 64
-  pub room : length (sheet_words sheet) ≤ length part
+  pub fits : 10 + 9 * p.pieces + 4 * length rects + 8 * length guide ≤ length part
+  pub pieces : p.pieces ≤ 64
+  pub rectangles : length rects ≤ 65
+  pub nodes : length guide ≤ most_nodes
+  pub sawable : sum (map node_saw guide) < 2 ^ 32
+  pub positive : 0 < stock_area stock
+  pub most : stock_area stock ≤ most_area
+  pub share : p.placed ≤ stock_area stock
 
--- whichever sheet it is, and whichever part its pieces were put into
+-- the waste's words behind the pieces', the nodes' behind those, and the ten words before the pieces
+abbrev pub finished_part : List ℕ → List Rect → List Node → StockInstance → Progress → List ℕ
+finished_part part rects guide stock p =
+    patch (patch (patch part (10 + 9 * p.pieces) (concat_map rect_words rects)) (10 + 9 * p.pieces + 4 * length rects) (concat_map words_of guide))
+    0 (head_words stock (p.placed * 1000 / stock_area stock) (sum (map node_saw guide)) p.pieces (length rects) (length guide))
+
 pub record Finishes (part after : List ℕ) (rects : List Rect) (guide : List Node) (stock : StockInstance) (p : Progress) (b : Body) : Type 0 where
-  pub finishes : (kerf : ℕ) (s : GuillotineSheet) (before : List ℕ) → s.stock ≡ stock → Replayed kerf s rects guide p
-      → length before ≡ length part → part ≡ patch before 10 (concat_map piece_words s.placed_pieces) → WritesSheet s before after b
+  pub words : after ≡ finished_part part rects guide stock p
+  pub size : b.size ≡ 10 + 9 * p.pieces + 4 * length rects + 8 * length guide
+  pub areas : b.areas ≡ record { placed = p.placed; board = stock_area stock }

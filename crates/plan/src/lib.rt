@@ -1,13 +1,13 @@
 // The plan's words: the writer of a winner's plan, and the reader of one sheet's part.
 #![tactic(auto)]
 
-ghost use Rattle.std.specs.Prelude.{◌≡◌, [], ◌≤◌, length, option_map, unwrap_or};
+ghost use Rattle.std.specs.Prelude.{◌≡◌, [], ◌≤◌, length, option_map};
 ghost use Rattle.model.specs.Outcome.{least_plan};
 ghost use Rattle.model.specs.Fitness.{one};
 ghost use Rattle.model.specs.Plan.{plan_words, sheet_part};
 ghost use Rattle.project.specs.Problem.{Sound};
 ghost use Rattle.candidate.specs.Stands.{Stands, candidate_in};
-ghost use Rattle.plan.specs.Sheets.{Plans, candidate_plan, WritesSheets};
+ghost use Rattle.plan.specs.Sheets.{Plans, candidate_plan, WritesSheets, part_named};
 
 mod plan_words; // The words of a plan
 mod sheet_plan; // One sheet's part of the plan
@@ -87,7 +87,7 @@ pub fn empty_plan(plan: &mut [u32], layout: LayoutKind) -> usize
 
 // The part of the plan that entry `number` of the contents names; none if there is no such entry or the part goes beyond the slice.
 fn sheet_part(plan: &[u32], number: u32) -> Option<&[u32]>
-    ensures { unwrap_or (option_map (λ part. part.now) result) [] ≡ sheet_part plan.now number }
+    ensures { option_map (λ part. part.now) result ≡ part_named plan.now number }
 {
     if *plan.first()? <= number {
         return None;

@@ -1,9 +1,10 @@
 // One sheet's part of the plan. The sheet is made again from its board and its insertions; each piece is written as it is placed,
 // then the waste, the guide's nodes, and the words before them, which count them.
 
-ghost use Rattle.std.specs.Prelude.{◌+◌, ◌*◌, ◌≤◌, ◌<◌, length, take};
+ghost use Rattle.std.specs.Prelude.{◌≡◌, ◌+◌, ◌*◌, ◌≤◌, ◌<◌, length, take};
 ghost use Rattle.model.specs.Sheet.{new_sheet};
 ghost use Rattle.model.specs.Plan.{sheet_words};
+ghost use Rattle.guide.specs.Nodes.{guide_nodes};
 ghost use Rattle.candidate.specs.Stands.{bin_in};
 ghost use Rattle.plan.specs.Replaying.{Replayed, Boardable, Replayable, Takeable, Takes, ReplaysWord, ReplaysSheet, WritesSheet, Finishable, Finishes};
 
@@ -175,7 +176,8 @@ fn finish_sheet(
     }
 }
 
-// The sheet on a board, from its insertions among those of a candidate. Free rectangles and guide are lent to work in: what they held does not matter.
+// The sheet on a board, from its insertions among those of a candidate. Free rectangles and guide are lent to
+// work in: what they held does not matter, and they are the sheet's then.
 #[tactic(auto, using(trust::proofs::RoundTrip::sheet_length))]
 pub fn write_sheet(
     part: &mut [u32],
@@ -187,7 +189,9 @@ pub fn write_sheet(
 ) -> Body
     requires { Replayable inst.now insertions.now board
         × (length (sheet_words (bin_in inst.now insertions.now board)) ≤ length part.old) }
-    ensures { WritesSheet (bin_in inst.now insertions.now board) part.old part.new result }
+    ensures written { WritesSheet (bin_in inst.now insertions.now board) part.old part.new result }
+    ensures rects { free.new ≡ (bin_in inst.now insertions.now board).free_rects }
+    ensures nodes { guide.new.items ≡ guide_nodes (bin_in inst.now insertions.now board).slicing_tree }
 {
     let p = replay_sheet(&mut part[10..], free, guide, inst, insertions, board);
     let s = inst.board(board as usize);

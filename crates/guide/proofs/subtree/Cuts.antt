@@ -1,5 +1,5 @@
 -- The nodes of an insertion's subtree, against the definition's cut_off and insert_subtree.
-use Rattle.std.specs.Prelude.{if◌then◌else◌, None, Some, option_to_list}
+use Rattle.std.specs.Prelude.{if◌then◌else◌, None, Some}
 use Rattle.std.specs.Prelude as Language
 use Prim.Native.Nat.{ℕ, ◌+◌, ◌-◌, ◌<◌}
 use native.Mathlib.Omega.{arith}
@@ -14,33 +14,33 @@ use Rattle.model.specs.declared.Rect.{Rect}
 use Rattle.model.specs.declared.Direction.{Direction}
 use Rattle.model.specs.Split.{bottom_remainder, right_remainder}
 use Rattle.model.specs.declared.InstanceKey.{InstanceKey}
-use Rattle.model.specs.Guide.{SliceNode, cut, leaf, free, cut_piece, span, cut_off}
+use Rattle.model.specs.declared.CutInstance.{CutInstance}
+use Rattle.model.specs.Types.{rect, cut_key}
+use Rattle.model.specs.Guide.{SliceNode, cut, leaf, free, cut_piece, span, cut_off, insert_subtree}
 use Rattle.trust.specs.WellCut.{guide_cut_of}
 use Rattle.trust.proofs.Guide.{guide_cut_some}
 use Rattle.sheet.specs.Bounds.{Small, Inside}
 use Rattle.guide.specs.declared.subtree.Node.{Node}
 use Rattle.guide.specs.declared.subtree.CutOff.{CutOff}
-use Rattle.guide.specs.declared.subtree.Subtree.{Subtree}
-use Rattle.guide.specs.Nodes.{around, subtree_nodes, guide_nodes, tree_nodes, Cuttable, CutsOff, InCorner}
+use Rattle.guide.specs.Nodes.{around, subtree_nodes, guide_nodes, tree_nodes, cut_off_of, subtree_of, InCorner}
 use Rattle.guide.proofs.subtree.Trees.{tree_nodes_cut, tree_nodes_leaf, guide_nodes_some, guide_nodes_none}
 
-module _ (work : Rect) (o : Direction) (offset kerf : ℕ) where
-  pub cut_off_nothing : (rest : Language.Option Rect) → rest ≡ None → CutsOff work o offset kerf rest None
-  unfolding cut_off
-  cut_off_nothing rest e = record { nodes = λ tree. rw e (guide_nodes_some tree) }
+-- what Cut::new asks of the cut of a remainder
+abbrev Cuttable : Rect → Direction → ℕ → ℕ → List Rect → Type 0
+Cuttable work orientation offset kerf [] = Unit {0}
+Cuttable work orientation offset kerf (r ∷ rs) =
+    (0 < work.width) × (0 < work.length) × (0 < offset) × (offset + kerf < span orientation work)
 
-  around_lem : (r : Rect) (node : SliceNode) → Cuttable work o offset kerf (r ∷ [])
-      → guide_nodes (cut_off work o offset kerf (r ∷ []) node) ≡ Node.Cut work o offset kerf ∷ (tree_nodes node ++ (Node.Free r ∷ []))
-  unfolding cut_off
-  around_lem r node h =
-      ap (λ g. guide_nodes (g >>= λ c. some (cut c node (leaf r free)))) (guide_cut_some work o offset kerf (record { wide = h.0; long = h.1 }) h.2 h.3)
-      ∙ guide_nodes_some (cut (guide_cut_of work o offset kerf) node (leaf r free))
-      ∙ tree_nodes_cut (guide_cut_of work o offset kerf) node (leaf r free)
-      ∙ ap (λ (l : List Node). Node.Cut work o offset kerf ∷ (tree_nodes node ++ l)) (tree_nodes_leaf r free)
-
-  pub cut_off_around : (rest : Language.Option Rect) (r : Rect) → rest ≡ Some r → Cuttable work o offset kerf (option_to_list rest)
-      → CutsOff work o offset kerf rest (Some (record { cut = Node.Cut work o offset kerf; remainder = Node.Free r }))
-  cut_off_around rest r e h = record { nodes = λ tree. rw e (around_lem r tree (rw e at h)) }
+-- the cut and its remainder are around whatever node the remainder is cut off from
+cut_off_around : (work : Rect) (o : Direction) (offset kerf : ℕ) (rs : List Rect) (node : SliceNode) → Cuttable work o offset kerf rs
+    → guide_nodes (cut_off work o offset kerf rs node) ≡ around (cut_off_of work o offset kerf rs) (tree_nodes node)
+unfolding cut_off
+cut_off_around work o offset kerf [] node h = guide_nodes_some node
+cut_off_around work o offset kerf (r ∷ rs) node h =
+    ap (λ g. guide_nodes (g >>= λ c. some (cut c node (leaf r free)))) (guide_cut_some work o offset kerf (record { wide = h.0; long = h.1 }) h.2 h.3)
+    ∙ guide_nodes_some (cut (guide_cut_of work o offset kerf) node (leaf r free))
+    ∙ tree_nodes_cut (guide_cut_of work o offset kerf) node (leaf r free)
+    ∙ ap (λ (l : List Node). Node.Cut work o offset kerf ∷ (tree_nodes node ++ l)) (tree_nodes_leaf r free)
 
 -- one cut off inside the other
 two_cuts : (inner : Option SliceNode) (outer : SliceNode → Option SliceNode) (n : Node) (ci co : Language.Option CutOff)
@@ -50,36 +50,45 @@ two_cuts none outer n None co e f = (let none_there = sym guide_nodes_none ∙ e
 two_cuts none outer n (Some c) co e f = (let none_there = sym guide_nodes_none ∙ e in cc)
 two_cuts (some t) outer n ci co e f = ap (around co) (sym e ∙ guide_nodes_some t) ∙ sym (f t)
 
--- an insertion's subtree, by its two cuts and its piece
-pub subtree_nodes_lem : (kerf : ℕ) (work₁ work₂ : Rect) (o₁ o₂ : Direction) (offset₁ offset₂ : ℕ) (rest₁ rest₂ : Language.Option Rect) (rs₁ rs₂ : List Rect) (r : Rect) (k : InstanceKey) (s : Subtree)
-    → option_to_list rest₁ ≡ rs₁ → option_to_list rest₂ ≡ rs₂ → s.piece ≡ Node.Piece r k
-    → CutsOff work₁ o₁ offset₁ kerf rest₁ s.inner → CutsOff work₂ o₂ offset₂ kerf rest₂ s.outer
-    → subtree_nodes s ≡ guide_nodes (cut_off work₁ o₁ offset₁ kerf rs₁ (leaf r (cut_piece k)) >>= λ t. cut_off work₂ o₂ offset₂ kerf rs₂ t)
-subtree_nodes_lem kerf work₁ work₂ o₁ o₂ offset₁ offset₂ rest₁ rest₂ rs₁ rs₂ r k s e₁ e₂ p inner outer =
+subtree_lem : (kerf : ℕ) (work₁ work₂ : Rect) (o₁ o₂ : Direction) (offset₁ offset₂ : ℕ) (rs₁ rs₂ : List Rect) (r : Rect) (k : InstanceKey)
+    → Cuttable work₁ o₁ offset₁ kerf rs₁ → Cuttable work₂ o₂ offset₂ kerf rs₂
+    → around (cut_off_of work₂ o₂ offset₂ kerf rs₂) (around (cut_off_of work₁ o₁ offset₁ kerf rs₁) (Node.Piece r k ∷ []))
+    ≡ guide_nodes (cut_off work₁ o₁ offset₁ kerf rs₁ (leaf r (cut_piece k)) >>= λ t. cut_off work₂ o₂ offset₂ kerf rs₂ t)
+subtree_lem kerf work₁ work₂ o₁ o₂ offset₁ offset₂ rs₁ rs₂ r k inner outer =
     let tree : SliceNode = leaf r (cut_piece k) in
-    two_cuts (cut_off work₁ o₁ offset₁ kerf rs₁ tree) (λ t. cut_off work₂ o₂ offset₂ kerf rs₂ t) s.piece s.inner s.outer
-    (ap (λ (l : List Rect). guide_nodes (cut_off work₁ o₁ offset₁ kerf l tree)) (sym e₁) ∙ inner.nodes tree
-    ∙ ap (around s.inner) (tree_nodes_leaf r (cut_piece k) ∙ ap (λ (n : Node). n ∷ []) (sym p)))
-    (λ t. ap (λ (l : List Rect). guide_nodes (cut_off work₂ o₂ offset₂ kerf l t)) (sym e₂) ∙ outer.nodes t)
+    let c : Language.Option CutOff = cut_off_of work₁ o₁ offset₁ kerf rs₁ in
+    two_cuts (cut_off work₁ o₁ offset₁ kerf rs₁ tree) (λ t. cut_off work₂ o₂ offset₂ kerf rs₂ t) (Node.Piece r k) c (cut_off_of work₂ o₂ offset₂ kerf rs₂)
+    (cut_off_around work₁ o₁ offset₁ kerf rs₁ tree inner ∙ ap (around c) (tree_nodes_leaf r (cut_piece k)))
+    (λ t. cut_off_around work₂ o₂ offset₂ kerf rs₂ t outer)
 
--- a remainder is pushed only if the cut leaves more than the kerf
+-- a remainder is there only if the cut leaves more than the kerf
 module _ (kerf : ℕ) (f p : Rect) (h : InCorner f p) where
   either : (b : Bool) (r : Rect) (work : Rect) (o : Direction) (offset : ℕ) → 0 < work.width → 0 < work.length → 0 < offset → (b ≡ true → offset + kerf < span o work)
       → Cuttable work o offset kerf (if b then r ∷ [] else [])
   either true r work o offset w l k s = (w, l, k, s refl)
   either false r work o offset w l k s = tt
 
-  pub bottom_cuttable : (rest : Language.Option Rect) (work : Rect) (width : ℕ) → option_to_list rest ≡ bottom_remainder kerf f p width
-      → 0 < work.width → work.length ≡ f.length → Cuttable work Direction.Horizontal p.length kerf (option_to_list rest)
+  bottom_cuttable : (work : Rect) (width : ℕ) → 0 < work.width → work.length ≡ f.length → Cuttable work Direction.Horizontal p.length kerf (bottom_remainder kerf f p width)
   unfolding bottom_remainder
-  bottom_cuttable rest work width e w s =
-      rw e (either (ltb kerf (f.length - p.length)) _ work Direction.Horizontal p.length w (omega arith) h.long (λ t. omega (arith, ltb-true kerf (f.length - p.length) t)))
+  bottom_cuttable work width w s =
+      either (ltb kerf (f.length - p.length)) _ work Direction.Horizontal p.length w (omega arith) h.long (λ t. omega (arith, ltb-true kerf (f.length - p.length) t))
 
-  pub right_cuttable : (rest : Language.Option Rect) (work : Rect) (long : ℕ) → option_to_list rest ≡ right_remainder kerf f p long
-      → 0 < work.length → work.width ≡ f.width → Cuttable work Direction.Vertical p.width kerf (option_to_list rest)
+  right_cuttable : (work : Rect) (long : ℕ) → 0 < work.length → work.width ≡ f.width → Cuttable work Direction.Vertical p.width kerf (right_remainder kerf f p long)
   unfolding right_remainder
-  right_cuttable rest work long e l s =
-      rw e (either (ltb kerf (f.width - p.width)) _ work Direction.Vertical p.width (omega arith) l h.wide (λ t. omega (arith, ltb-true kerf (f.width - p.width) t)))
+  right_cuttable work long l s =
+      either (ltb kerf (f.width - p.width)) _ work Direction.Vertical p.width (omega arith) l h.wide (λ t. omega (arith, ltb-true kerf (f.width - p.width) t))
+
+  -- the subtree's nodes are those of the definition's: Cut::new takes both cuts
+  pub subtree_is : (d : Direction) (c : CutInstance) → subtree_nodes (subtree_of d kerf f p c) ≡ guide_nodes (insert_subtree d kerf f p c)
+  unfolding subtree_of insert_subtree
+  subtree_is Direction.Horizontal c =
+      let top : Rect = rect f.x f.y f.width p.length in
+      subtree_lem kerf top f Direction.Vertical Direction.Horizontal p.width p.length _ _ p (cut_key c)
+      (right_cuttable top p.length h.long refl) (bottom_cuttable f f.width (omega arith) refl)
+  subtree_is Direction.Vertical c =
+      let left : Rect = rect f.x f.y p.width f.length in
+      subtree_lem kerf left f Direction.Horizontal Direction.Vertical p.length p.width _ _ p (cut_key c)
+      (bottom_cuttable left p.width h.wide refl) (right_cuttable f f.length (omega arith) refl)
 
 -- as the split asks for it
 pub splittable : (f p : Rect) → InCorner f p → Small f × Inside p f

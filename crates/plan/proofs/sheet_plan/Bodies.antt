@@ -28,7 +28,9 @@ use Rattle.guide.specs.Saws as saws
 use Rattle.guide.proofs.saw.Saws.{saw_is}
 use Rattle.plan.specs.declared.sheet_plan.Progress.{Progress}
 use Rattle.plan.specs.Heads.{head_words}
-use Rattle.plan.specs.Replaying.{Replayed, WritesSheet, Finishable}
+use Rattle.plan.specs.declared.sheet_plan.Body.{Body}
+use Rattle.candidate.specs.Areas.{areas_of}
+use Rattle.plan.specs.Replaying.{Replayed, WritesSheet, Finishable, finished_part, Finishes}
 
 -- ---- the words by their parts
 
@@ -73,28 +75,43 @@ module _ (kerf : ℕ) (s : GuillotineSheet) (rects : List Rect) (guide : List No
   node_words_lem = ap (concat_map words_of) state.nodes ∙ nodes_words (nodes_of s.slicing_tree)
 
   module _ (thin : kerf ≤ most_side) (bounded : Bounded kerf s) (few : length s.placed_pieces ≤ 64) where
-    pub few_pieces : p.pieces ≤ 64
+    few_pieces : p.pieces ≤ 64
     few_pieces = omega (arith, state.pieces)
 
-    pub few_rects : length rects ≤ 65
+    few_rects : length rects ≤ 65
     few_rects = omega (arith, free_count_lem, bounded.free)
 
-    pub few_nodes : length guide ≤ most_nodes
+    few_nodes : length guide ≤ most_nodes
     few_nodes = omega (arith, node_count_lem, bounded.nodes)
 
-    pub sawable : Language.sum (map saws.node_saw guide) < 2 ^ 32
+    sawable : Language.sum (map saws.node_saw guide) < 2 ^ 32
     unfolding saw_of
     sawable = omega (arith, sawn, saw_range kerf s thin bounded, bounded.nodes)
 
-    pub shares : (0 < stock_area s.stock) × (p.placed ≤ stock_area s.stock) × (stock_area s.stock ≤ most_area)
+    shares : (0 < stock_area s.stock) × (p.placed ≤ stock_area s.stock) × (stock_area s.stock ≤ most_area)
     shares = (mul-pos bounded.board.wide bounded.board.long, omega (arith, state.placed, placed_most kerf s bounded.layout), board_area_most s.stock bounded.board)
+
+    -- what follows the pieces can be written
+    pub sizes : (part : List ℕ) (stock : StockInstance) → s.stock ≡ stock → length (sheet_words s) ≤ length part → Finishable part rects guide stock p
+    sizes part stock board room =
+        let same : stock_area s.stock ≡ stock_area stock = ap (λ (b : StockInstance). stock_area b) board in
+        record {
+          fits = omega (arith, room, body_length_lem);
+          pieces = few_pieces;
+          rectangles = few_rects;
+          nodes = few_nodes;
+          sawable = sawable;
+          positive = rw same at shares.0;
+          most = rw same at shares.2;
+          share = rw same at shares.1;
+        }
 
   -- the parts, written one after the other
   module _ (before part : List ℕ) (size : length before ≡ length part) (room : length (sheet_words s) ≤ length part) (first : part ≡ patch before 10 (pieces s)) where
-    module _ (part₁ part₂ part₃ : List ℕ) (saw used area : ℕ)
+    module _ (part₁ part₂ part₃ : List ℕ) (saw used : ℕ)
         (second : part₁ ≡ patch part (10 + 9 * p.pieces) (concat_map rect_words rects))
         (third : part₂ ≡ patch part₁ (10 + 9 * p.pieces + 4 * length rects) (concat_map words_of guide))
-        (summed : saw ≡ Language.sum (map saws.node_saw guide)) (share : used ≡ p.placed * 1000 / area) (board : area ≡ stock_area s.stock)
+        (summed : saw ≡ Language.sum (map saws.node_saw guide)) (share : used ≡ p.placed * 1000 / stock_area s.stock)
         (fourth : part₃ ≡ patch part₂ 0 (head_words s.stock used saw p.pieces (length rects) (length guide))) where
       wasted : part₁ ≡ patch part (10 + 9 * p.pieces) (waste s)
       wasted = rw state.free.rects second
@@ -115,7 +132,7 @@ module _ (kerf : ℕ) (s : GuillotineSheet) (rects : List Rect) (guide : List No
       head_is : head_words s.stock used saw p.pieces (length rects) (length guide) ≡ head_of s
       unfolding use_of
       head_is =
-          let use_is : used ≡ use_of s = share ∙ rw (board, state.placed) in
+          let use_is : used ≡ use_of s = share ∙ rw state.placed in
           let length_is : saw ≡ saw_of s = summed ∙ sawn in
           rw (use_is, length_is, state.pieces, ← free_count_lem, ← node_count_lem)
 
@@ -129,37 +146,16 @@ module _ (kerf : ℕ) (s : GuillotineSheet) (rects : List Rect) (guide : List No
           ∙ patch_front before 10 0 (head_of s) rest (omega (arith, head_length s.stock (use_of s) (saw_of s) (length s.placed_pieces) (length s.free_rects) (length (nodes_of s.slicing_tree)))) (omega arith)
           ∙ ap (patch before 0) (whole s)
 
-      pub finished : WritesSheet s before part₃ (record { size = 10 + 9 * p.pieces + 4 * length rects + 8 * length guide; areas = record { placed = p.placed; board = area } })
-      finished =
-          record {
-            words = body;
-            size = omega (arith, body_length_lem, free_count_lem);
-            areas = λ i. record { placed = state.placed i; board = board i };
-          }
-
--- ---- what the calls need
-
-pub record Sizes (part : List ℕ) (rects : List Rect) (guide : List Node) (stock : StockInstance) (p : Progress) : Type 0 where
-  pub fits : 10 + 9 * p.pieces + 4 * length rects + 8 * length guide ≤ length part
-  pub pieces : p.pieces ≤ 64
-  pub rectangles : length rects ≤ 65
-  pub nodes : length guide ≤ most_nodes
-  pub sawable : Language.sum (map saws.node_saw guide) < 2 ^ 32
-  pub positive : 0 < stock_area stock
-  pub most : stock_area stock ≤ most_area
-  pub share : p.placed ≤ stock_area stock
-
-pub sizes : (part : List ℕ) (rects : List Rect) (guide : List Node) (stock : StockInstance) (p : Progress) → Finishable part rects guide stock p → Sizes part rects guide stock p
-sizes part rects guide stock p f =
-    let share = shares f.kerf f.sheet rects guide p f.state f.thin f.bounded f.few in
-    let same : stock_area f.sheet.stock ≡ stock_area stock = ap (λ (b : StockInstance). stock_area b) f.board in
-    record {
-      fits = omega (arith, f.room, body_length_lem f.kerf f.sheet rects guide p f.state);
-      pieces = few_pieces f.kerf f.sheet rects guide p f.state f.thin f.bounded f.few;
-      rectangles = few_rects f.kerf f.sheet rects guide p f.state f.thin f.bounded f.few;
-      nodes = few_nodes f.kerf f.sheet rects guide p f.state f.thin f.bounded f.few;
-      sawable = sawable f.kerf f.sheet rects guide p f.state f.thin f.bounded f.few;
-      positive = rw same at share.0;
-      most = rw same at share.2;
-      share = rw same at share.1;
-    }
+    -- the part is the sheet's then
+    pub finished : (stock : StockInstance) → s.stock ≡ stock → (after : List ℕ) (b : Body) → Finishes part after rects guide stock p b → WritesSheet s before after b
+    finished stock board after b f =
+        record {
+          words =
+              f.words ∙ ap (λ (b : StockInstance). finished_part part rects guide b p) (sym board)
+              ∙ body _ _ (finished_part part rects guide s.stock p) _ _ refl refl refl refl refl;
+          size = omega (arith, f.size, body_length_lem);
+          areas = f.areas ∙ areas stock board;
+        }
+      where
+        areas : (stock : StockInstance) → s.stock ≡ stock → record { placed = p.placed; board = stock_area stock } ≡ areas_of s
+        areas stock board = λ i. record { placed = state.placed i; board = stock_area (sym board i) }

@@ -18,6 +18,7 @@ use Rattle.model.specs.declared.StockInstance.{StockInstance}
 use Rattle.model.specs.declared.FitResult.{FitResult}
 use Rattle.model.specs.Types.{area, stock_rect}
 use Rattle.model.specs.Guide.{leaf, free}
+use Rattle.model.specs.Split.{split_direction}
 use Rattle.model.specs.Sheet.{GuillotineSheet, PlacedPiece, Insertion, Place, new_sheet, insert_at, try_insert, placed_area}
 use Rattle.model.specs.Plan.{piece_words}
 use Rattle.trust.specs.Admitted.{PanelRange}
@@ -29,7 +30,8 @@ use Rattle.sheet.specs.Places.{place_at, Shows}
 use Rattle.sheet.specs.Insertions.{Insertable, InsertsInto}
 use Rattle.sheet.proofs.Sheets.{new_shows, new_ready, inserts_nothing, Placed, inserts_at}
 use Rattle.guide.specs.declared.subtree.Node.{Node}
-use Rattle.guide.specs.Nodes.{guide_nodes}
+use Rattle.guide.specs.Nodes.{guide_nodes, InCorner}
+use Rattle.guide.proofs.Guides.{next_nodes_are}
 use Rattle.guide.proofs.Sheets.{next_guide_is, in_corner, room}
 use Rattle.plan.specs.declared.sheet_plan.Progress.{Progress}
 use Rattle.plan.specs.Replaying.{new_pieces, Replayed, Boardable, Takeable, Takes}
@@ -95,6 +97,11 @@ module _ (kerf : ℕ) (s t : GuillotineSheet) (i : Insertion) (w : List Rect) (g
     is_next : t ≡ insert_at kerf s i (place_at k r f)
     is_next = some-injective _ _ (sym step ∙ done.is)
 
+    corner : PanelRange i.cut → InCorner r f.rect
+    corner panel =
+        in_corner kerf s i (place_at k r f) panel.wide panel.long (omega (arith, bounded.board.width)) (omega (arith, bounded.board.length))
+        (best_place_good s i (place_at k r f) done.best) bounded.layout
+
     pub takeable : (l : List ℕ) → PanelRange i.cut → 9 * length t.placed_pieces ≤ length l → length t.placed_pieces ≤ 64 → Takeable l g r f p
     takeable l panel fits few =
         let more : length t.placed_pieces ≡ length s.placed_pieces + 1 = ap (λ (u : GuillotineSheet). length u.placed_pieces) is_next ∙ more_pieces kerf s i (place_at k r f) in
@@ -103,13 +110,11 @@ module _ (kerf : ℕ) (s t : GuillotineSheet) (i : Insertion) (w : List Rect) (g
         record {
           room = omega (arith, state.pieces);
           space = room g s state.nodes bounded.nodes (omega arith);
-          corner =
-              in_corner kerf s i (place_at k r f) panel.wide panel.long (omega (arith, bounded.board.width)) (omega (arith, bounded.board.length))
-              (best_place_good s i (place_at k r f) done.best) bounded.layout;
+          corner = corner panel;
           area = omega (arith, state.placed, placed_most kerf t next.layout, board_area_most t.stock next.board);
         }
 
-    module _ (l l' : List ℕ) (g' : List Node) (q : Progress) (takes : Takes kerf i.cut i.heuristic r f m p l l' g g' q) where
+    module _ (panel : PanelRange i.cut) (l l' : List ℕ) (g' : List Node) (q : Progress) (takes : Takes kerf i.cut i.heuristic r f m p l l' g g' q) where
       pub written : l' ≡ patch l (9 * length s.placed_pieces) (new_pieces s t)
       written =
           takes.words
@@ -121,7 +126,7 @@ module _ (kerf : ℕ) (s t : GuillotineSheet) (i : Insertion) (w : List Rect) (g
           record {
             free = own_grain kerf s i (place_at k r f) w' done.shows;
             ready = done.ready;
-            nodes = rw (next_guide_is kerf s i (place_at k r f), ← done.merged) (takes.nodes.became s.slicing_tree state.nodes);
+            nodes = rw (next_guide_is kerf s i (place_at k r f), ← done.merged) (takes.nodes ∙ next_nodes_are (split_direction r f.rect i.heuristic.split) kerf r f.rect i.cut (corner panel) m g s.slicing_tree state.nodes);
             pieces = omega (arith, takes.pieces, state.pieces, more_pieces kerf s i (place_at k r f));
             placed = omega (arith, takes.placed, state.placed, more_area kerf s i (place_at k r f));
           }

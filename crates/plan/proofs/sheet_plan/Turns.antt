@@ -34,6 +34,7 @@ use Rattle.guide.specs.declared.subtree.Node.{Node}
 use Rattle.plan.specs.declared.sheet_plan.Progress.{Progress}
 use Rattle.plan.specs.Replaying.{new_pieces, Replayed, Replayable, Takeable, Takes, TakeableIn, TakesIn, ReplaysWord, ReplaysSheet, Finishable}
 use Rattle.plan.proofs.sheet_plan.Making.{begins, bin_pieces, begun_pieces, bin_board, bin_bounded, step_on, step_off, kept_pieces, cut_known, first_bin}
+use Rattle.plan.proofs.sheet_plan.Bodies.{sizes}
 use Rattle.plan.proofs.sheet_plan.Steps.{no_piece, insertable, not_nothing, takeable, written, replayed, pieces_more}
 
 -- ---- an insertion by its case
@@ -116,8 +117,8 @@ module _ (inst : ProblemInstance) (words : List ℕ) (b : ℕ) (m : Replayable i
           unfolding insertion
           taken l' g' q takes =
               record {
-                state = replayed inst.kerf_width s t insertion w g p state bounded step w' k fr f merged (into (Some (record { index = k; free_rect = fr; fit = f; merged = merged })) e) l l' g' q takes;
-                pieces = written inst.kerf_width s t insertion w g p state bounded step w' k fr f merged (into (Some (record { index = k; free_rect = fr; fit = f; merged = merged })) e) l l' g' q takes;
+                state = replayed inst.kerf_width s t insertion w g p state bounded step w' k fr f merged (into (Some (record { index = k; free_rect = fr; fit = f; merged = merged })) e) panel l l' g' q takes;
+                pieces = written inst.kerf_width s t insertion w g p state bounded step w' k fr f merged (into (Some (record { index = k; free_rect = fr; fit = f; merged = merged })) e) panel l l' g' q takes;
               }
 
         -- the piece of an insertion that finds its place
@@ -153,13 +154,5 @@ module _ (inst : ProblemInstance) (words : List ℕ) (b : ℕ) (m : Replayable i
 pub finishable : (inst : ProblemInstance) → Ranged inst → (words : List ℕ) (b : ℕ) → Replayable inst words b → (part : List ℕ) (w : List Rect) (g : List Node) (p : Progress) (stock : StockInstance)
     → stock ≡ board_in inst b → Replayed inst.kerf_width (bin_in inst words b) w g p → length (sheet_words (bin_in inst words b)) ≤ length part → Finishable part w g stock p
 finishable inst r words b m part w g p stock e state room =
-    record {
-      kerf = inst.kerf_width;
-      thin = r.kerf;
-      sheet = bin_in inst words b;
-      board = bin_board inst words b m ∙ sym e;
-      state = state;
-      bounded = bin_bounded inst words b m r;
-      few = omega (arith, bin_pieces inst words b m, m.few);
-      room = room;
-    }
+    sizes inst.kerf_width (bin_in inst words b) w g p state r.kerf (bin_bounded inst words b m r) (omega (arith, bin_pieces inst words b m, m.few)) part stock
+    (bin_board inst words b m ∙ sym e) room

@@ -31,7 +31,7 @@ overflow_cast-body c =
 pub loop-j-preserved : goal.loop-j-preserved
 loop-j-preserved c = (
   c.put_words.auto.words ∙ same_len_mid c.loop-j.at (length c.loop-j.plan - c.loop-j.at) c.loop-j.plan _ c.write_sheet-body.auto.part ∙ c.loop-j.invariant.0,
-  rw c.push.ensures.items (turn c.args.inst.now c.requires.0.ranged c.args.c.now c.requires.1 c.loop-j.j c.loop-j-test.true c.args.plan.now c.loop-j.plan c.requires.2 c.loop-j.at c.loop-j.areas.items c.loop-j.invariant.1 _ _ c.write_sheet-body.result (rw c.as_slice-insertions.ensures.value at c.write_sheet-body.ensures) c.put_words.ensures),
+  rw c.push.ensures.items (turn c.args.inst.now c.requires.0.ranged c.args.c.now c.requires.1 c.loop-j.j c.loop-j-test.true c.args.plan.now c.loop-j.plan c.requires.2 c.loop-j.at c.loop-j.areas.items c.loop-j.invariant.1 _ _ c.write_sheet-body.result (rw c.as_slice-insertions.ensures.value at c.write_sheet-body.ensures.written) c.put_words.ensures),
 )
 
 pub returns : goal.returns

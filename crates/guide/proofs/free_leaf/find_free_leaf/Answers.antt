@@ -1,6 +1,7 @@
 -- From the root on.
-use Rattle.guide.proofs.free_leaf.Searches.{finds}
+use mathlib.Core.Path.{ap, ◌∙◌}
+use Rattle.std.specs.ControlFlow.{break_value}
 use Rattle.guide.proofs.free_leaf.find_free_leaf.Goals as goal
 
 pub returns : goal.returns
-returns c = rw c.break_value.ensures.value (finds c.args.nodes.now c.args.target c.free_leaf_from.result c.free_leaf_from.ensures)
+returns c = c.break_value.ensures.value ∙ ap break_value c.free_leaf_from.ensures

@@ -11,6 +11,7 @@ use Rattle.candidate.specs.Stands.{bin_in}
 use Rattle.plan.proofs.sheet_plan.Parts.{patch_behind}
 use Rattle.plan.proofs.sheet_plan.Making.{bin_board}
 use Rattle.plan.proofs.sheet_plan.Turns.{finishable}
+use Rattle.plan.proofs.sheet_plan.Bodies.{finished}
 use Rattle.plan.proofs.sheet_plan.write_sheet.Goals as goal
 
 pub finish_sheet-requires : goal.finish_sheet-requires
@@ -22,6 +23,14 @@ finish_sheet-requires c =
 pub returns : goal.returns
 returns c =
     let s : GuillotineSheet = bin_in c.args.inst.now c.args.insertions.now c.args.board in
-    c.finish_sheet.ensures.finishes c.args.inst.now.kerf_width s c.args.part.now (bin_board c.args.inst.now c.args.insertions.now c.args.board c.requires.0 ∙ sym c.board-s.ensures.value)
-    (rw (c.as_slice.ensures.value, c.as_slice-2.ensures.value) c.replay_sheet-p.ensures.state) (sym (same_len_mid 10 (length c.args.part.now - 10) c.args.part.now _ c.replay_sheet-p.auto.pieces))
-    (patch_behind c.args.part.now 10 0 (concat_map piece_words s.placed_pieces) _ c.replay_sheet-p.ensures.pieces)
+    let state = c.replay_sheet-p.ensures.state in
+    record {
+      written =
+          finished c.args.inst.now.kerf_width s _ _ c.replay_sheet-p.result state c.args.part.now _ (sym (same_len_mid 10 (length c.args.part.now - 10) c.args.part.now _ c.replay_sheet-p.auto.pieces))
+          (omega (arith, c.requires.1, same_len_mid 10 (length c.args.part.now - 10) c.args.part.now _ c.replay_sheet-p.auto.pieces))
+          (patch_behind c.args.part.now 10 0 (concat_map piece_words s.placed_pieces) _ c.replay_sheet-p.ensures.pieces)
+          c.board-s.result (bin_board c.args.inst.now c.args.insertions.now c.args.board c.requires.0 ∙ sym c.board-s.ensures.value) _ _
+          (rw (c.as_slice.ensures.value, c.as_slice-2.ensures.value) at c.finish_sheet.ensures);
+      rects = sym state.free.rects;
+      nodes = state.nodes;
+    }
