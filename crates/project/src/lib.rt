@@ -4,7 +4,7 @@
 ghost use Rattle.std.specs.Prelude.{◌≡◌, if◌then◌else◌, Some, None, ◌+◌, ◌*◌, ◌/◌, ◌≤◌, length};
 ghost use Rattle.lists.specs.Parts.{part};
 ghost use Rattle.model.specs.Types.{layout_of, effort_of};
-ghost use Rattle.model.specs.Project.{project_of, body_length, well_formed, record_length, most_records};
+ghost use Rattle.model.specs.Project.{project_of, body_length, well_formed, stock_start, stock_length, cuts_start, cuts_length, record_length, most_records};
 ghost use Rattle.model.specs.Refusal.{total_quantity};
 ghost use Rattle.project.specs.Refusals.{refusal_number};
 ghost use Rattle.project.specs.Records.{record_of, record_at, records};
@@ -206,6 +206,7 @@ impl<'a> ProjectFile<'a> {
     // The stock records, one behind the other.
     #[tactic(auto, using(crate::proofs::Shape::long))]
     pub fn stock_body(&self) -> &[u8]
+        ensures bytes { result.now ≡ part self.now stock_start (stock_length self.now) }
         ensures few { length result.now ≤ record_length * most_records }
         ensures read { records result.now ≡ (project_of self.now).stock }
     {
@@ -219,6 +220,7 @@ impl<'a> ProjectFile<'a> {
     // The cut records, behind them.
     #[tactic(auto, using(crate::proofs::Shape::long))]
     pub fn cuts_body(&self) -> &[u8]
+        ensures bytes { result.now ≡ part self.now (cuts_start self.now) (cuts_length self.now) }
         ensures few { length result.now ≤ record_length * most_records }
         ensures read { records result.now ≡ (project_of self.now).cuts }
     {

@@ -6,13 +6,19 @@ use mathlib.Core.List.{List}
 use lib.ListN.{length}
 use Rattle.lists.specs.Parts.{part}
 use Rattle.lists.proofs.Parts.{length_part}
-use Rattle.model.specs.Project.{project_of}
+use Rattle.model.specs.Project.{project_of, cuts_start, cuts_length}
 use Rattle.project.specs.Records.{records}
 use Rattle.project.proofs.Shape.{Shape, shape, cuts_is}
 use Rattle.project.proofs.ProjectFile.cuts_body.Goals as goal
 
 pub part-requires : goal.part-requires
 part-requires c = let s : Shape c.self.inside.bytes.now = shape c.self.inside.bytes.now c.self.invariant in omega arith
+
+pub returns-clause-bytes : goal.returns-clause-bytes
+returns-clause-bytes c =
+    let s : Shape c.self.inside.bytes.now = shape c.self.inside.bytes.now c.self.invariant in
+    c.part.ensures ∙ ap₂ (part c.self.inside.bytes.now) (c.number_4.ensures ∙ s.cuts_follow) c.number_4-2.ensures
+    ∙ ap (λ (bytes : List ℕ). part bytes (cuts_start bytes) (cuts_length bytes)) c.self.view_is
 
 pub returns-clause-few : goal.returns-clause-few
 returns-clause-few c =
