@@ -106,6 +106,6 @@ line_of line = if is_empty (first_word line) then Ok Line.Blank else body_of (ke
 
 -- ---- what a reader of a line answers
 
--- the field's number, and what is left of the line behind it; or that the line has no such field
-abbrev pub IsTaken : Option (ℕ × List ℕ) → Reason → Result ℕ Reason → List ℕ → Type 0
-IsTaken field why result left = MatchResult result (λ n. field ≡ Some (n, left)) (λ e. (e ≡ why) × (field ≡ None))
+-- the field's number, and what is left of the line behind it; or that the line has no such field, and what is left behind the word that says none
+abbrev pub IsTaken : Option (ℕ × List ℕ) → Reason → List ℕ → Result ℕ Reason → List ℕ → Type 0
+IsTaken field why behind result left = MatchResult result (λ n. field ≡ Some (n, left)) (λ e. (e ≡ why) × (field ≡ None) × (left ≡ behind))

@@ -78,7 +78,7 @@ impl<'a> Words<'a> {
 
     // Passes the next word if it is this one, and says whether it is.
     fn skip(&mut self, word: &[u8]) -> bool
-        ensures skipped { result ≡ true → choice 0 (word.now ∷ []) self.old.rest.now ≡ Some (0, self.new.rest.now) }
+        ensures skipped { result ≡ true → (choice 0 (word.now ∷ []) self.old.rest.now ≡ Some (0, self.new.rest.now)) × (self.new.rest.now ≡ after_word self.old.rest.now) }
         ensures kept { result ≡ false → (choice 0 (word.now ∷ []) self.old.rest.now ≡ None) × (self.new.rest.now ≡ self.old.rest.now) }
     {
         let before = self.rest;
@@ -90,21 +90,21 @@ impl<'a> Words<'a> {
     }
 
     pub fn number(&mut self, most: u64) -> Result<u64, Reason>
-        ensures { IsTaken (number most self.old.rest.now) Reason.Number result self.new.rest.now }
+        ensures { IsTaken (number most self.old.rest.now) Reason.Number (after_word self.old.rest.now) result self.new.rest.now }
     {
         digits(self.next_word(), most).ok_or(Reason::Number)
     }
 
     // The place of the next word in a table.
     fn choice(&mut self, table: &[&[u8]]) -> Result<u64, Reason>
-        ensures { IsTaken (choice 0 (map (λ t. t.now) table.now) self.old.rest.now) Reason.Choice result self.new.rest.now }
+        ensures { IsTaken (choice 0 (map (λ t. t.now) table.now) self.old.rest.now) Reason.Choice (after_word self.old.rest.now) result self.new.rest.now }
     {
         let place = place_in(table, self.next_word()).ok_or(Reason::Choice)?;
         Ok(place as u64)
     }
 
     pub fn quantity(&mut self) -> Result<u64, Reason>
-        ensures { IsTaken (quantity self.old.rest.now) Reason.Number result self.new.rest.now }
+        ensures { IsTaken (quantity self.old.rest.now) Reason.Number (after_word (after_word self.old.rest.now)) result self.new.rest.now }
     {
         if !self.skip(b"x") {
             return Ok(1);
@@ -113,7 +113,7 @@ impl<'a> Words<'a> {
     }
 
     pub fn grain(&mut self) -> Result<u64, Reason>
-        ensures { IsTaken (grain self.old.rest.now) Reason.Choice result self.new.rest.now }
+        ensures { IsTaken (grain self.old.rest.now) Reason.Choice (after_word (after_word self.old.rest.now)) result self.new.rest.now }
     {
         if !self.skip(b"grain") {
             return Ok(0);
@@ -133,7 +133,7 @@ impl<'a> Words<'a> {
     }
 
     pub fn setting(&mut self, setting: Setting) -> Result<u64, Reason>
-        ensures { IsTaken (setting_of setting self.old.rest.now) (why_of setting) result self.new.rest.now }
+        ensures { IsTaken (setting_of setting self.old.rest.now) (why_of setting) (after_word self.old.rest.now) result self.new.rest.now }
     {
         match setting {
             Setting::Kerf => self.number(MOST_NUMBER),
@@ -145,7 +145,8 @@ impl<'a> Words<'a> {
 
     // Nothing but a comment may follow.
     pub fn end(&mut self) -> Result<(), Reason>
-        ensures { MatchResult result (λ _. is_empty (first_word self.old.rest.now) ≡ true) (λ why. (why ≡ Reason.Extra) × (is_empty (first_word self.old.rest.now) ≡ false)) }
+        ensures ended { MatchResult result (λ _. is_empty (first_word self.old.rest.now) ≡ true) (λ why. (why ≡ Reason.Extra) × (is_empty (first_word self.old.rest.now) ≡ false)) }
+        ensures left { self.new.rest.now ≡ after_word self.old.rest.now }
     {
         if !self.next_word().is_empty() {
             return Err(Reason::Extra);

@@ -37,8 +37,8 @@ pub returns-in_err-end : goal.returns-in_err-end
 unfolding record_line
 returns-in_err-end c =
     let p = err_from_is_err_and c.from_residual-in_err-end.result c.from_residual-in_err-end.ensures.1 in
-    rw (p.1, p.2, c.in_ok-number.ensures, c.in_ok-number-2.ensures, c.in_ok-number-3.ensures, c.in_ok-quantity.ensures, c.in_ok-grain.ensures, c.flag.ensures, c.in_err-end.ensures.0, c.in_err-end.ensures.1)
+    rw (p.1, p.2, c.in_ok-number.ensures, c.in_ok-number-2.ensures, c.in_ok-number-3.ensures, c.in_ok-quantity.ensures, c.in_ok-grain.ensures, c.flag.ensures, c.in_err-end.ensures.ended.0, c.in_err-end.ensures.ended.1)
 
 pub returns : goal.returns
 unfolding record_line
-returns c = rw (c.in_ok-number.ensures, c.in_ok-number-2.ensures, c.in_ok-number-3.ensures, c.in_ok-quantity.ensures, c.in_ok-grain.ensures, c.flag.ensures, c.in_ok-end.ensures)
+returns c = rw (c.in_ok-number.ensures, c.in_ok-number-2.ensures, c.in_ok-number-3.ensures, c.in_ok-quantity.ensures, c.in_ok-grain.ensures, c.flag.ensures, c.in_ok-end.ensures.ended)
