@@ -1,6 +1,6 @@
 -- What a line says. The keywords are `kerf N`, `layout guillotine|nested`, `effort fast|balanced|thorough`, `unit mm|inch|foot`,
 -- `board ID WIDTH LENGTH [x QUANTITY] [grain width|length]` and `panel ID WIDTH LENGTH [x QUANTITY] [grain width|length] [turn]`.
-use Rattle.std.specs.Prelude.{ℕ, ◌-◌, ◌^◌, ◌≡◌, Option, Some, None, Result, Ok, Err, MatchResult, bytes_eq, List, [], ◌∷◌, if◌then◌else◌}
+use Rattle.std.specs.Prelude.{ℕ, ◌-◌, ◌^◌, ◌≡◌, Bool, Option, Some, None, Result, Ok, Err, MatchResult, bytes_eq, List, [], ◌∷◌, if◌then◌else◌}
 use Rattle.std.specs.Option.{option_map}
 use Rattle.lists.specs.Base.{is_empty}
 use Rattle.words.specs.Ascii.{ascii}
@@ -30,6 +30,13 @@ abbrev pub most_id : ℕ
 most_id = 2 ^ 64 - 1
 
 -- ---- fields that may be left out
+
+-- whether the next word is this one, and what is left of the line once it is passed, if it is
+abbrev pub says : List ℕ → List ℕ → Bool
+says word rest = bytes_eq (first_word rest) word
+
+abbrev pub passed : List ℕ → List ℕ → List ℕ
+passed word rest = if says word rest then after_word rest else rest
 
 -- what follows a keyword; without the keyword what it stands for, and all that is left
 abbrev pub behind : Option (ℕ × List ℕ) → (List ℕ → Option (ℕ × List ℕ)) → ℕ → List ℕ → Option (ℕ × List ℕ)

@@ -4,7 +4,7 @@ ghost use Rattle.std.specs.Prelude.{◌≡◌, ℕ, Bool, true, false, [], ◌�
 ghost use Rattle.std.specs.List.{before_first};
 ghost use Rattle.lists.specs.Base.{is_empty};
 ghost use Rattle.typed.specs.Words.{is_blank, from_first, first_word, after_word, decimal_value, read_digits, code_in};
-ghost use Rattle.typed.specs.Lines.{IsTaken, number, choice, quantity, grain, flag_of, setting_of, why_of};
+ghost use Rattle.typed.specs.Lines.{IsTaken, says, passed, number, choice, quantity, grain, flag_of, setting_of, why_of};
 
 use super::line::{Kind, Reason, Setting};
 
@@ -78,8 +78,8 @@ impl<'a> Words<'a> {
 
     // Passes the next word if it is this one, and says whether it is.
     fn skip(&mut self, word: &[u8]) -> bool
-        ensures skipped { result ≡ true → (choice 0 (word.now ∷ []) self.old.rest.now ≡ Some (0, self.new.rest.now)) × (self.new.rest.now ≡ after_word self.old.rest.now) }
-        ensures kept { result ≡ false → (choice 0 (word.now ∷ []) self.old.rest.now ≡ None) × (self.new.rest.now ≡ self.old.rest.now) }
+        ensures skipped { result ≡ says word.now self.old.rest.now }
+        ensures left { self.new.rest.now ≡ passed word.now self.old.rest.now }
     {
         let before = self.rest;
         if self.next_word() == word {

@@ -1,12 +1,14 @@
 -- What a word says, its digits and its place in a table; and where a text is cut.
 use Rattle.std.proofs.Common.{◌≡◌, refl, sym, ap, ◌∙◌, ℕ, suc, ◌+◌, ◌-◌, ◌*◌, ◌≤◌, ◌<◌, Bool, true, false, cond, ◌&&◌, List, [], ◌∷◌, length, get_or, map, take, drop, ltb, Option, Some, None, leb, bytes_eq, Bor, arith, add-one, drop-cons, if◌then◌else◌}
 use Rattle.std.specs.List.{position, position_from, position_or_len, before_first, find}
+use Rattle.std.specs.Int.{from_bool}
 use Rattle.std.specs.Option.{unwrap_or, option_map}
 use Rattle.std.proofs.lemmas.Option.{some_pair_parts}
 use Rattle.lists.specs.Base.{is_empty}
 use Rattle.lists.proofs.Booleans.{both}
-use Rattle.typed.specs.Words.{first_word, read_digits, decimal_value, code_in}
-use Rattle.typed.specs.Lines.{found, choice}
+use Rattle.typed.specs.Words.{first_word, after_word, read_digits, decimal_value, code_in}
+use Rattle.typed.specs.Lines.{found, choice, says, passed, turn}
+use Rattle.words.specs.Ascii.{ascii}
 use borrow.Author.Tests.{le-leb, leb-true, ltb-false}
 use lib.ListN.{drop_of_length-le}
 use lib.Seq.{take_all}
@@ -160,3 +162,18 @@ module _ {K : Type 0} (w : List ℕ) where
       go : (o : Option (Bor (Bor (List ℕ) × K))) → option_map (λ e. e.now.1) o ≡ second (option_map (λ e. e.now) o)
       go None = refl
       go (Some x) = refl
+
+-- ---- a word passed
+
+pub skipped : (word rest left : List ℕ) → left ≡ passed word rest → says word rest ≡ true → (choice 0 (word ∷ []) rest ≡ Some (0, left)) × (left ≡ after_word rest)
+unfolding code_in
+skipped word rest left e t = (rw (e, t), rw (e, t))
+
+pub not_skipped : (word rest left : List ℕ) → left ≡ passed word rest → says word rest ≡ false → (choice 0 (word ∷ []) rest ≡ None) × (left ≡ rest)
+unfolding code_in
+not_skipped word rest left e t = (rw t, rw (e, t))
+
+-- a panel's last word
+pub turned : (rest left : List ℕ) (b : Bool) → b ≡ says (ascii "turn") rest → left ≡ passed (ascii "turn") rest → turn rest ≡ Some (from_bool b, left)
+turned rest left true e l = rw (skipped (ascii "turn") rest left l (sym e)).0
+turned rest left false e l = let kept = not_skipped (ascii "turn") rest left l (sym e) in rw (kept.0, kept.1)
