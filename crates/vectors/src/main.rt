@@ -2,7 +2,8 @@
 // bytes, the lowest first. Says how many of the planner's texts are equal, and the first pair that differs.
 #![tactic(auto)]
 
-ghost use Rattle.std.specs.Prelude.{◌≡◌, ◌≤◌, ◌<◌, length};
+ghost use Rattle.std.specs.Prelude.{◌≡◌, length};
+ghost use Rattle.vectors.specs.Replay.{first_part, behind_part, is_equal, no_pairs, replayed, zeros};
 
 use std::io;
 use words::append::Buffer;
@@ -17,8 +18,8 @@ struct Tally {
 
 // The part that a corpus begins with, and what is behind it. Where the corpus ends before the part does, the part is what there is.
 fn split_part(corpus: &[u8]) -> (&[u8], &[u8])
-    ensures shorter { 0 < length corpus.now → length result.1.now < length corpus.now }
-    ensures within { length result.1.now ≤ length corpus.now }
+    ensures part { result.0.now ≡ first_part corpus.now }
+    ensures behind { result.1.now ≡ behind_part corpus.now }
 {
     match corpus.split_first_chunk() {
         Some((size, rest)) => rest.split_at(rest.len().min(u32::from_le_bytes(*size) as usize)),
@@ -26,14 +27,19 @@ fn split_part(corpus: &[u8]) -> (&[u8], &[u8])
     }
 }
 
-fn is_equal(file: &[u8], text: &[u8]) -> bool {
+// Whether the text is the planner's for the file.
+fn is_equal(file: &[u8], text: &[u8]) -> bool
+    ensures { result ≡ is_equal file.now text.now }
+{
     let mut printed = Buffer::<65_536>::new();
     text::put_answer(file, &mut printed);
     printed.as_slice() == text
 }
 
 // It goes on while there is a pair; how long a pair is, its own words say.
-fn replay(corpus: &[u8]) -> Tally {
+fn replay(corpus: &[u8]) -> Tally
+    ensures { result ≡ replayed (length corpus.now) no_pairs corpus.now }
+{
     let mut tally = Tally::default();
     let mut rest = corpus;
     while !rest.is_empty() {
@@ -65,7 +71,8 @@ fn tell(rt: &impl Print, tally: Tally) -> io::Result<()> {
 
 // Room for a corpus. Its length is said by a contract, so that no proof has to count it.
 fn room() -> [u8; 1_048_576]
-    ensures { 1_048_576 ≡ length result }
+    ensures empty { result ≡ zeros 1_048_576 }
+    ensures size { 1_048_576 ≡ length result }
 {
     [0; 1_048_576]
 }
