@@ -12,10 +12,9 @@ ghost use Rattle.candidate.specs.Stands.{Stands};
 ghost use Rattle.search.specs.Numbers.{numbers_of};
 ghost use Rattle.search.specs.Slots.{slot_words, Storable};
 ghost use Rattle.search.specs.Populations.{AllStand, PopulationBecomes, OnlySlots, Stores};
-ghost use Rattle.candidate.specs.Bins.{Shown};
 ghost use Rattle.search.specs.Ranks.{Selected};
 ghost use Rattle.search.specs.Regions.{Region, behind_slots, PushesChild};
-ghost use Rattle.search.specs.Improved.{improved, FromSeed, Improves};
+ghost use Rattle.search.specs.Improved.{ShowsSheets, improved, FromSeed, Improves};
 
 mod stored; // A candidate at rest in 130 words of the workspace
 pub mod seeds; // The numbers of an effort, the rows of heuristics, and the seeds of the first population
@@ -82,7 +81,7 @@ fn initial_population(
 // The free rectangles of a candidate's sheets, from its insertions.
 fn show_sheets(free: &mut [FreeRects; 64], inst: &ProblemInstance<'_>, c: &Candidate)
     requires { Sound inst.now × Stands inst.now [] c.now }
-    ensures { Shown inst.now free.new c.now }
+    ensures { ShowsSheets inst.now c.now free.old free.new }
 {
     let boards = &c.boards[..c.sheets];
     let _all = placing::rebuild(free, inst, boards, c.insertions.as_slice());

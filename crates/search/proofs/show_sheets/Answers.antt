@@ -8,4 +8,8 @@ rebuild-all-requires c = rw c.as_slice.ensures.value (candidate_rebuildable c.ar
 
 pub returns : goal.returns
 returns c =
-    candidate_shown c.args.inst.now [] c.args.c.now c.requires.1 c.args.free.now c.rebuild-all.new.free c.rebuild-all.result (rw c.as_slice.ensures.value at c.rebuild-all.ensures)
+    let rebuilt = rw c.as_slice.ensures.value at c.rebuild-all.ensures in
+    record {
+      shown = candidate_shown c.args.inst.now [] c.args.c.now c.requires.1 c.args.free.now c.rebuild-all.new.free c.rebuild-all.result rebuilt;
+      others = rebuilt.others;
+    }
