@@ -2,7 +2,6 @@
 use Rattle.std.specs.Prelude.{ℕ, zero, suc, ◌+◌, Bool, Some, None, List, [], ◌∷◌, length, take, drop, ltb, replicate, bytes_eq, if◌then◌else◌}
 use Rattle.std.specs.Option.{option_or}
 use Rattle.std.specs.Int.{w32, from_le_bytes}
-use Rattle.words.specs.Appending.{with_bytes}
 use Rattle.text.specs.Text.{printed}
 use Rattle.vectors.specs.declared.Tally.{Tally}
 
@@ -17,9 +16,9 @@ behind_part corpus = if ltb (length corpus) 4 then [] else drop (from_le_bytes w
 
 -- ---- the pairs
 
--- whether the text is what is printed for the file, as far as the room for it goes
+-- whether the text is what is printed for the file
 unfoldable pub is_equal : List ℕ → List ℕ → Bool
-is_equal file text = bytes_eq (with_bytes 65_536 [] (printed file)) text
+is_equal file text = bytes_eq (printed file) text
 
 abbrev pub no_pairs : Tally
 no_pairs = record { pairs = 0; equal = 0; first_other = None }
