@@ -6,28 +6,23 @@ use mathlib.Core.List.{List, [], ◌∷◌, ◌++◌, map}
 use mathlib.Core.Option
 use lib.ListN.{length, get_or, take, drop}
 use lib.Seq.{take-take}
-use borrow.Author.Tests.{eqb-true}
 use Rattle.lists.specs.Elements.{All}
 use Rattle.lists.proofs.Perm.{perm_sym, all_map, all_both, all_left, all_right, all_perm}
 use Rattle.lists.proofs.Counts.{range_below}
-use Rattle.lists.proofs.Booleans.{is_true}
 use Rattle.lists.proofs.Maps.{map_same}
-use Rattle.model.specs.declared.StockInstance.{StockInstance}
-use Rattle.model.specs.declared.CutInstance.{CutInstance}
-use Rattle.model.specs.Types.{same_key, stock_key, cut_key}
+use Rattle.model.specs.Types.{stock_key, cut_key}
 use Rattle.model.specs.Sheet.{Insertion, new_sheet, rebuild, making_of}
 use Rattle.model.specs.Candidate.{Candidate}
 use Rattle.model.specs.Search.{full_stock}
 use Rattle.model.specs.Expand.{ProblemInstance}
 use Rattle.trust.specs.Admitted.{Admitted, Ranged}
-use Rattle.trust.proofs.Candidate.{same_key_refl}
 use Rattle.project.specs.Problem.{no_stock, no_cut, board_in, cut_in}
 use Rattle.candidate.specs.declared.Candidate.{Candidate as Words}
 use Rattle.candidate.specs.Entries.{cut_of}
 use Rattle.candidate.specs.Stands.{Stands, making_in, bin_in, sheet_boards, placed_words, unused_numbers, candidate_in}
 use Rattle.candidate.specs.Alike.{Alike}
 use Rattle.candidate.proofs.Standing.{boards_below}
-use Rattle.candidate.proofs.evaluation.KeyNumbers.{same_number}
+use Rattle.candidate.proofs.evaluation.KeyNumbers.{number_once}
 use Rattle.candidate.proofs.evaluation.Sheets.{Made, bin_made, full_stock_is}
 use Rattle.candidate.proofs.variation.Sheets.{bin_count}
 
@@ -79,19 +74,11 @@ alike_same inst k l few a = λ i. record { bins = bins i; available_stock = ap�
 module _ (inst : ProblemInstance) (admitted : Admitted inst) where
   board_once : (i j : ℕ) → i < length inst.stock → j < length inst.stock → board_in inst i ≡ board_in inst j → i ≡ j
   unfolding board_in
-  board_once i j h k e =
-      eqb-true i j
-      (sym (same_number stock_key no_stock inst.stock admitted.own_boards i j h k)
-      ∙ ap (λ (b : StockInstance). same_key (stock_key (get_or inst.stock i no_stock)) (stock_key b)) (sym e)
-      ∙ is_true _ (same_key_refl (stock_key (get_or inst.stock i no_stock))))
+  board_once = number_once stock_key no_stock inst.stock admitted.own_boards
 
   cut_once : (i j : ℕ) → i < length inst.cuts → j < length inst.cuts → cut_in inst i ≡ cut_in inst j → i ≡ j
   unfolding cut_in
-  cut_once i j h k e =
-      eqb-true i j
-      (sym (same_number cut_key no_cut inst.cuts admitted.own_panels i j h k)
-      ∙ ap (λ (c : CutInstance). same_key (cut_key (get_or inst.cuts i no_cut)) (cut_key c)) (sym e)
-      ∙ is_true _ (same_key_refl (cut_key (get_or inst.cuts i no_cut))))
+  cut_once = number_once cut_key no_cut inst.cuts admitted.own_panels
 
   module _ (ranged : Ranged inst) (k l : Words) (s : Stands inst [] k) (t : Stands inst [] l) (e : candidate_in inst k ≡ candidate_in inst l) where
     abbrev B : List ℕ

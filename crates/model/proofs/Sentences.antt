@@ -7,10 +7,10 @@ use mathlib.Core.Path.{◌≡◌, refl, ap, ◌∙◌}
 use mathlib.Core.Bool.{Bool, true, false, ◌&&◌}
 use mathlib.Core.List.{List, [], ◌∷◌, map}
 use mathlib.Core.Option.{none, some}
-use lib.Dec.{T, eqb, leb, ltb, eqb→eq}
-use lib.ListN.{length, take, length-take}
+use lib.Dec.{T, eqb, eqb→eq}
+use lib.ListN.{length, length-take}
 use borrow.Author.Tests.{le-leb, lt-ltb, le-ltb}
-use Rattle.lists.specs.Base.{is_less, then_with, lexicographic, retain, sort_by}
+use Rattle.lists.specs.Base.{is_less, lexicographic, retain, sort_by}
 use Rattle.model.specs.declared.Rect.{Rect}
 use Rattle.model.specs.declared.Direction.{Direction}
 use Rattle.model.specs.declared.GuillotineRectChoice.{GuillotineRectChoice}

@@ -1,15 +1,13 @@
 -- How long a text can be. That of a plan has at most 45,371 bytes: 59 in its first line, 230 for each of 64 sheets and 478 for each of 64 pieces.
 use Rattle.std.specs.Prelude.{if◌then◌else◌}
-use Prim.Native.Nat.{ℕ, zero, suc, ◌+◌, ◌-◌, ◌*◌, ◌/◌, ◌%◌, ◌^◌, ◌≤◌, ◌<◌}
+use Prim.Native.Nat.{ℕ, zero, suc, ◌+◌, ◌*◌, ◌/◌, ◌%◌, ◌^◌, ◌≤◌, ◌<◌}
 use native.Mathlib.Nat.{pow-suc, mul-suc}
 use native.Mathlib.Omega.{arith}
-use mathlib.Core.Path.{◌≡◌, refl, sym, ap, ◌∙◌, subst}
-use mathlib.Core.Logic.{inl, inr}
+use mathlib.Core.Path.{◌≡◌, refl, ap, subst}
 use mathlib.Core.Bool.{Bool, true, false, ◌&&◌}
 use mathlib.Core.List.{List, [], ◌∷◌, ◌++◌, map}
-use mathlib.Core.Option.{get_or as or_else}
-use lib.Dec.{T, ltb, leb}
-use lib.ListN.{length, take, drop, replicate, get_or, length-append}
+use lib.Dec.{ltb, leb}
+use lib.ListN.{length, take, drop, get_or, length-append}
 use lib.Ieee.{Float}
 use borrow.Author.Tests.{ltb-true, ltb-false}
 use Rattle.lists.specs.Base.{concat_map, range, sum}
@@ -19,9 +17,9 @@ use Rattle.model.specs.declared.LayoutKind.{LayoutKind}
 use Rattle.model.specs.declared.InstanceKey.{InstanceKey}
 use Rattle.model.specs.Sheet.{GuillotineSheet}
 use Rattle.model.specs.Plan.{rect_words, nodes_of, entry_of, part_of, sheet_part, plan_words}
-use Rattle.lists.proofs.Perm.{all_map, all_append}
+use Rattle.lists.proofs.Perm.{all_append}
 use Rattle.lists.proofs.Sums.{length-map}
-use Rattle.lists.proofs.Every.{all_take, all_drop, map_all, all_of_map, all_map_any}
+use Rattle.lists.proofs.Every.{all_take, all_drop, map_all, all_map_any}
 use Rattle.trust.specs.Words.{PieceIn, NodeIn, SheetIn, word, head_size, groups, key_at, rect_at, piece_in, waste_in, node_in, node_key, waste_start, nodes_start, sheet_in, sheets_in}
 use Rattle.trust.specs.InLayout.{is_cut, is_piece}
 use Rattle.trust.proofs.PlanRange.{Word}

@@ -1,11 +1,11 @@
 -- No text is longer than `most_text`, so a buffer of that room takes every text whole.
-use Prim.Native.Nat.{ℕ, zero, suc, ◌+◌, ◌-◌, ◌*◌, ◌^◌, ◌≤◌, ◌<◌}
+use Prim.Native.Nat.{ℕ, zero, suc, ◌-◌, ◌≤◌, ◌<◌}
 use native.Mathlib.Omega.{arith}
-use mathlib.Core.Path.{◌≡◌, refl, sym, ap, ◌∙◌, subst}
+use mathlib.Core.Path.{◌≡◌, refl, sym, ◌∙◌, subst}
 use mathlib.Core.List.{List, [], ◌∷◌, ◌++◌}
 use mathlib.Core.Option.{get_or as or_else}
 use lib.Dec.{T, ltb, ltb→lt}
-use lib.ListN.{length, take, drop, get_or, replicate, length-append, length-replicate}
+use lib.ListN.{length, get_or, replicate, length-append, length-replicate}
 use Rattle.std.proofs.lemmas.List.{take_all}
 use borrow.Author.Tests.{ne_eqb}
 use Rattle.lists.specs.Base.{sum}
@@ -18,7 +18,7 @@ use Rattle.model.specs.Fitness.{fitness, positive_zero, one}
 use Rattle.model.specs.Project.{project_of}
 use Rattle.model.specs.Search.{heuristic_variants}
 use Rattle.model.specs.Plan.{plan_words}
-use Rattle.model.specs.Answer.{Answer, plan, refused, answer, answer_with}
+use Rattle.model.specs.Answer.{Answer, plan, refused, answer}
 use Rattle.model.specs.Outcome.{least_workspace, least_plan}
 use Rattle.model.proofs.Memory.{outcome_answer, plan_first}
 use Rattle.trust.proofs.Truth.{and_split}
@@ -30,7 +30,6 @@ use Rattle.trust.proofs.Planned.{plan_admitted, Planned, no_cuts, searched_for}
 use Rattle.trust.proofs.Planned.{planned as planned_from}
 use Rattle.trust.proofs.PlanSize.{counted}
 use Rattle.trust.proofs.PlanRange.{Word, plan_words_lem}
-use Rattle.optimizer.specs.Promise.{number_of_answer}
 use Rattle.optimizer.proofs.FromFile.{all_bytes}
 use Rattle.optimizer.proofs.Numbers.{Numbered, outcome_numbered}
 use Rattle.words.specs.Appending.{with_bytes}

@@ -17,10 +17,9 @@ use Rattle.model.specs.Plan.{preorder, nodes_of}
 use Rattle.lists.proofs.Perm.{all_map, all_append, all_left, all_right, all_perm}
 use Rattle.lists.proofs.Sums.{sum_append}
 use Rattle.trust.specs.Limits.{most_edge, most_area}
-use Rattle.trust.specs.Proper.{Bounded, FreeCount, NodeCount}
+use Rattle.trust.specs.Proper.{Bounded}
 use Rattle.trust.specs.Sound.{Sound, Within, piece_rects, sheet_rects}
 use Rattle.trust.specs.Admitted.{BoardRange, PanelRange}
-use Rattle.trust.specs.WellCut.{GuideIn}
 use Rattle.trust.proofs.Placing.{Good, at_place}
 use Rattle.trust.proofs.Sheet.{new_sound, insert_sound, lies_positive, chosen_first}
 use Rattle.trust.proofs.Packing.{packed_area}

@@ -1,12 +1,11 @@
 -- A candidate keeps every board and every panel of the instance exactly once, and its sheets keep whatever an insertion keeps.
 use Prim.Native.Nat.{ℕ}
 use mathlib.Core.Path.{◌≡◌, refl, sym, ap, ◌∙◌, subst}
-use mathlib.Core.Bool.{not}
 use mathlib.Core.List.{List, [], ◌∷◌, ◌++◌, map, append_assoc, append-nil, Memᴰ}
 use mathlib.Core.Option.{Option, none, some, some-injective, none-ne-some}
 use lib.Dec.{T, T_not, not_T, eqb, eqb→eq, eqb_refl}
 use Rattle.lists.specs.Base.{◌>>=◌, ◌<|>◌, foldl, concat_map}
-use Rattle.lists.specs.Elements.{Perm, keep, flip, also, All, Pairs}
+use Rattle.lists.specs.Elements.{Perm, keep, flip, also, All}
 use Rattle.model.specs.declared.BaselineGuillotineHeuristic.{BaselineGuillotineHeuristic}
 use Rattle.model.specs.declared.StockInstance.{StockInstance}
 use Rattle.model.specs.declared.CutInstance.{CutInstance}

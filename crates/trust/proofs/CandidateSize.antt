@@ -80,7 +80,7 @@ used_area (b ∷ bins) = ap (λ (n : ℕ). stock_area b.stock + n) (used_area bi
 
 -- ---- a candidate that keeps every board and every panel
 
-module _ (P : GuillotineSheet → Type 0) (kerf : ℕ) (stock : List StockInstance) (cuts later : List CutInstance) (c : Candidate) (k : Kept P stock cuts later c) where
+module _ (P : GuillotineSheet → Type 0) (stock : List StockInstance) (cuts later : List CutInstance) (c : Candidate) (k : Kept P stock cuts later c) where
   pub pieces_kept : piece_count c.bins + length c.unused_cuts + length later ≡ length cuts
   pieces_kept =
       omega (
@@ -122,9 +122,9 @@ sheet_counts kerf s h p = record { pieces = h; waste = omega (arith, p.bounded.f
 pub candidate_counts : (inst : ProblemInstance) → Ranged inst → (later : List CutInstance) (c : Candidate) → UnderWay inst later c → CandidateCounts inst c
 candidate_counts inst r later c h =
     let k = h.kept in
-    let pieces = pieces_kept _ inst.kerf_width inst.stock inst.cuts later c k in
-    let boards = boards_kept _ inst.kerf_width inst.stock inst.cuts later c k in
-    let areas = areas_kept _ inst.kerf_width inst.stock inst.cuts later c k in
+    let pieces = pieces_kept _ inst.stock inst.cuts later c k in
+    let boards = boards_kept _ inst.stock inst.cuts later c k in
+    let areas = areas_kept _ inst.stock inst.cuts later c k in
     let sheets = filled_count c.bins h.filled in
     let most : piece_count c.bins ≤ most_pieces = omega (arith, r.few_panels) in
     record {
@@ -143,4 +143,4 @@ candidate_counts inst r later c h =
 
 -- while a cut is to be placed there is room for its piece
 pub room : (inst : ProblemInstance) → Ranged inst → (cut : CutInstance) (later : List CutInstance) (c : Candidate) → UnderWay inst (cut ∷ later) c → piece_count c.bins < most_pieces
-room inst r cut later c h = omega (arith, pieces_kept _ inst.kerf_width inst.stock inst.cuts (cut ∷ later) c h.kept, r.few_panels)
+room inst r cut later c h = omega (arith, pieces_kept _ inst.stock inst.cuts (cut ∷ later) c h.kept, r.few_panels)

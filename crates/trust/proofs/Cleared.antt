@@ -5,8 +5,8 @@ use native.Mathlib.Omega.{arith}
 use mathlib.Core.Path.{◌≡◌, refl, sym, ap, ◌∙◌, subst}
 use mathlib.Core.Logic.{inl, inr}
 use mathlib.Core.Bool.{Bool, true, false, not, ◌&&◌, ◌||◌, true≢false, false≢true}
-use mathlib.Core.List.{List, [], ◌∷◌, map}
-use mathlib.Core.Option.{Option, none, some, some-injective, none-ne-some, get_or}
+use mathlib.Core.List.{List, [], ◌∷◌}
+use mathlib.Core.Option.{Option, none, some, some-injective, none-ne-some}
 use lib.Dec.{T, eqb}
 use lib.ListN.{length}
 use borrow.Author.Tests.{ne_eqb, eqb-true}
@@ -15,9 +15,8 @@ use Rattle.lists.specs.Elements.{Perm}
 use Rattle.model.specs.declared.BaselineGuillotineHeuristic.{BaselineGuillotineHeuristic}
 use Rattle.model.specs.declared.LayoutKind.{LayoutKind}
 use Rattle.model.specs.declared.CutInstance.{CutInstance}
-use Rattle.model.specs.Types.{layout_of, effort_of}
+use Rattle.model.specs.Types.{effort_of}
 use Rattle.model.specs.Sheet.{GuillotineSheet}
-use Rattle.model.specs.Fitness.{fitness, positive_zero, one}
 use Rattle.model.specs.Candidate.{Candidate}
 use Rattle.model.specs.Project.{project_of}
 use Rattle.model.specs.Refusal.{first_that_applies, file_refusal}

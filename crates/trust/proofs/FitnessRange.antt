@@ -172,7 +172,7 @@ pub valid_sheets : (inst : ProblemInstance) (c : Candidate) → CandidateProper 
 unfolding is_valid
 valid_sheets inst c h t n =
     let none_left = empty_nil c.unused_cuts (first_of_three (is_empty c.unused_cuts) (not (has_duplicate_keys (placed_cut_keys c.bins))) (is_some (cuts_for_keys inst.cuts (placed_cut_keys c.bins))) t) in
-    some_bin c.bins (omega (arith, pieces_kept _ inst.kerf_width inst.stock inst.cuts [] c h.kept, ap length none_left))
+    some_bin c.bins (omega (arith, pieces_kept _ inst.stock inst.cuts [] c h.kept, ap length none_left))
   where
     some_bin : (bins : List GuillotineSheet) → 0 < piece_count bins → 0 < length bins
     some_bin [] k = unfold piece_count sum in k

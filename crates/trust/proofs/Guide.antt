@@ -16,7 +16,7 @@ use Rattle.model.specs.declared.Rect.{Rect}
 use Rattle.model.specs.declared.Direction.{Direction}
 use Rattle.model.specs.declared.CutInstance.{CutInstance}
 use Rattle.model.specs.declared.InstanceKey.{InstanceKey}
-use Rattle.model.specs.Types.{rect, cut_key, same_rect}
+use Rattle.model.specs.Types.{cut_key, same_rect}
 use Rattle.model.specs.Split.{split_direction, bottom_remainder, right_remainder, split_free_rect}
 use Rattle.model.specs.Guide.{GuideCut, SliceNode, cut, leaf, free, cut_piece, span, guide_cut, cut_off, insert_subtree, replace_free_leaf}
 use Rattle.model.specs.Sheet.{GuillotineSheet, Insertion, Place, split_rects, split_tree, insert_at}

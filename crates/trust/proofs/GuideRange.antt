@@ -1,6 +1,6 @@
 -- Every node of a guide lies in the board: a cut's work rectangle with an offset and a kerf inside it, and a leaf's rectangle with the key of a panel.
 use Rattle.std.specs.Prelude.{if◌then◌else◌}
-use Prim.Native.Nat.{ℕ, ◌+◌, ◌^◌, ◌≤◌, ◌<◌}
+use Prim.Native.Nat.{ℕ, ◌+◌, ◌≤◌, ◌<◌}
 use native.Mathlib.Omega.{arith}
 use mathlib.Core.Path.{◌≡◌, refl, subst}
 use mathlib.Core.Bool.{Bool, true, false, ◌||◌}
@@ -13,11 +13,9 @@ use Rattle.lists.specs.Elements.{All}
 use Rattle.model.specs.declared.Rect.{Rect}
 use Rattle.model.specs.declared.Direction.{Direction}
 use Rattle.model.specs.declared.CutInstance.{CutInstance}
-use Rattle.model.specs.declared.InstanceKey.{InstanceKey}
 use Rattle.model.specs.Types.{cut_key, stock_rect}
 use Rattle.model.specs.Guide.{GuideCut, SliceNode, cut, leaf, free, cut_piece, span, guide_cut, cut_off, insert_subtree}
 use Rattle.model.specs.Sheet.{GuillotineSheet, Insertion, Place, insert_at}
-use Rattle.model.specs.Refusal.{most_instances}
 use Rattle.model.specs.Plan.{preorder, nodes_of}
 use Rattle.trust.specs.WellCut.{CutIn, GuideIn, NodeWithin, first_part, guide_cut_of, second_part}
 use Rattle.trust.specs.Sound.{Positive, Within}

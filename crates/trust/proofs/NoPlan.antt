@@ -1,21 +1,20 @@
 -- Where the answer is 15 or 16, no words obey the piece rules: those numbers are the prefilter's alone.
 use Rattle.std.specs.Prelude.{if◌then◌else◌}
-use Prim.Native.Nat.{ℕ, ◌+◌, ◌≤◌, ◌<◌}
+use Prim.Native.Nat.{ℕ, ◌<◌}
 use native.Mathlib.Omega.{arith}
 use mathlib.Core.Path.{◌≡◌, refl, ap, subst}
 use mathlib.Core.Logic.{◌⊎◌, inl, inr}
 use mathlib.Core.Bool.{Bool, true, false}
-use mathlib.Core.List.{List, [], ◌∷◌, ◌++◌}
-use mathlib.Core.Option.{Option, none, some, some-injective, none-ne-some}
-use Rattle.lists.specs.Base.{◌<|>◌, is_empty}
-use Rattle.lists.specs.Elements.{All}
+use mathlib.Core.List.{List, []}
+use mathlib.Core.Option.{Option, none, some}
+use Rattle.lists.specs.Base.{is_empty}
 use Rattle.model.specs.declared.BaselineGuillotineHeuristic.{BaselineGuillotineHeuristic}
 use Rattle.model.specs.declared.LayoutKind.{LayoutKind}
 use Rattle.model.specs.Types.{layout_of, effort_of}
 use Rattle.model.specs.Fitness.{one}
 use Rattle.model.specs.Candidate.{Candidate}
-use Rattle.model.specs.Project.{Record, Project, project_of, well_formed}
-use Rattle.model.specs.Refusal.{Check, first_that_applies, RecordRule, stock_rule, cut_rule, record_checks, settings_checks, whole_checks, project_checks, file_checks, file_refusal}
+use Rattle.model.specs.Project.{project_of}
+use Rattle.model.specs.Refusal.{file_refusal}
 use Rattle.model.specs.Search.{SearchNumbers, search_numbers, heuristic_variants, winner}
 use Rattle.model.specs.Plan.{plan_words}
 use Rattle.model.specs.Outcome.{Outcome, least_workspace, is_late, clears, cleared, written, too_small, outcome}

@@ -4,7 +4,7 @@ use Prim.Native.Nat.{ℕ, ◌+◌}
 use mathlib.Core.Path.{◌≡◌, subst}
 use mathlib.Core.Bool.{Bool, true, false, not, ◌&&◌}
 use mathlib.Core.List.{List, [], ◌∷◌, ◌++◌}
-use mathlib.Core.Option.{Option, none, some, some-injective, none-ne-some}
+use mathlib.Core.Option.{none, some, some-injective, none-ne-some}
 use lib.Dec.{T, ltb}
 use Rattle.lists.specs.Base.{◌<|>◌}
 use Rattle.lists.specs.Elements.{All}

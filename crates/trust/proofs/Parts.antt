@@ -13,11 +13,10 @@ use Rattle.model.specs.declared.Rect.{Rect}
 use Rattle.model.specs.declared.Direction.{Direction}
 use Rattle.model.specs.declared.StockInstance.{StockInstance}
 use Rattle.model.specs.declared.CutInstance.{CutInstance}
-use Rattle.model.specs.declared.InstanceKey.{InstanceKey}
 use Rattle.model.specs.Types.{stock_rect, cut_key}
-use Rattle.model.specs.Guide.{SliceNode, cut, leaf, free, cut_piece, span, cut_off, insert_subtree}
+use Rattle.model.specs.Guide.{SliceNode, leaf, cut_piece, span, cut_off, insert_subtree}
 use Rattle.model.specs.Sheet.{GuillotineSheet, Insertion, Place, new_sheet, insert_at}
-use Rattle.trust.specs.WellCut.{InPart, PartsOk, WellCut, cut_in, first_part, free_in, guide_cut_of, piece_in, second_part}
+use Rattle.trust.specs.WellCut.{InPart, PartsOk, WellCut, cut_in, first_part, free_in, piece_in, second_part}
 use Rattle.trust.specs.Sound.{Positive}
 use Rattle.trust.proofs.Placing.{Good}
 use Rattle.trust.proofs.Sheet.{lies_positive}

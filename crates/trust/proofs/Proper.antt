@@ -13,7 +13,7 @@ use Rattle.model.specs.Sheet.{GuillotineSheet, Insertion, new_sheet, try_insert}
 use Rattle.model.specs.Candidate.{Candidate, new_candidate, place_cut_first_fit, place_cuts, reinsert_unused_first_fit, compact_worst_bin, is_valid}
 use Rattle.model.specs.Expand.{ProblemInstance}
 use Rattle.model.specs.Search.{SearchNumbers, default_heuristic, initial_population, child_of, run_generations, winner}
-use Rattle.trust.specs.Proper.{AllFilled, Bounded, CandidateProper, Kept, SheetOk, SheetProper, UnderWay}
+use Rattle.trust.specs.Proper.{AllFilled, CandidateProper, Kept, SheetProper, UnderWay}
 use Rattle.trust.specs.Admitted.{Admitted, BoardRange, PanelRange, Ranged}
 use Rattle.lists.proofs.Perm.{perm_refl, all_map, all_both, in_all}
 use Rattle.trust.proofs.Sheet.{try_insert_sound, try_insert_rebuilt}

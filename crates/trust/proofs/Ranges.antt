@@ -12,11 +12,9 @@ use lib.ListN.{length, take, drop}
 use borrow.Author.Tests.{ltb-false, eqb-true, eq-eqb, not-false}
 use Rattle.lists.specs.Base.{sum, range, concat_map, is_empty}
 use Rattle.lists.specs.Elements.{All}
-use Rattle.model.specs.declared.StockInstance.{StockInstance}
-use Rattle.model.specs.declared.CutInstance.{CutInstance}
 use Rattle.model.specs.Project.{Record, Project, little_endian, number, read_record, read_records, project_of, stock_start, stock_length, cuts_start, cuts_length, record_length}
 use Rattle.model.specs.Refusal.{RecordRule, most_side, most_instances, total_quantity, large_side, settings_checks, stock_rule, cut_rule, record_checks, whole_checks, project_checks, file_refusal}
-use Rattle.model.specs.Expand.{ProblemInstance, compare_stock, stock_instances, cut_instances, expand_project}
+use Rattle.model.specs.Expand.{compare_stock, stock_instances, cut_instances, expand_project}
 use Rattle.trust.specs.Admitted.{BoardRange, InRange, PanelRange, Ranged}
 use Rattle.lists.proofs.Perm.{perm_sym, length_perm, sort_by_perm, all_both, all_left, all_right, all_perm}
 use Rattle.lists.proofs.Sums.{length-map, length_count_from, length_counted}

@@ -4,20 +4,17 @@ use Prim.Native.Nat.{ℕ, ◌<◌}
 use mathlib.Core.Path.{◌≡◌}
 use mathlib.Core.List.{List}
 use mathlib.Core.Option.{some}
-use lib.Dec.{T}
-use Rattle.model.specs.declared.PatternDirection.{PatternDirection}
 use Rattle.model.specs.declared.BaselineGuillotineHeuristic.{BaselineGuillotineHeuristic}
 use Rattle.model.specs.declared.StockInstance.{StockInstance}
-use Rattle.model.specs.Fit.{pattern_matches}
-use Rattle.model.specs.Sheet.{GuillotineSheet, PlacedPiece, Insertion, new_sheet, insert_at, try_insert}
+use Rattle.model.specs.Sheet.{GuillotineSheet, Insertion, new_sheet, insert_at, try_insert}
 use Rattle.model.specs.Candidate.{Candidate}
 use Rattle.model.specs.Expand.{ProblemInstance}
 use Rattle.model.specs.Search.{SearchNumbers, winner}
-use Rattle.trust.specs.Admitted.{Admitted, DifferBoards, Distinct}
-use Rattle.trust.specs.Sound.{Legal, Lies, Rebuilt, Sound}
+use Rattle.trust.specs.Admitted.{Admitted}
+use Rattle.trust.specs.Sound.{Legal}
 use Rattle.trust.specs.Proper.{SheetOk}
 use Rattle.trust.specs.WellCut.{PartsOk}
-use Rattle.lists.specs.Elements.{All, Pairs}
+use Rattle.lists.specs.Elements.{All}
 use Rattle.lists.proofs.Perm.{all_append, all_map, in_all}
 use Rattle.trust.proofs.Placing.{at_place}
 use Rattle.trust.proofs.Sheet.{new_sound, try_insert_sound, new_rebuilt, try_insert_rebuilt}

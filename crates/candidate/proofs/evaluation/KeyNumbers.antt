@@ -49,6 +49,12 @@ module _ {A : Type 0} (key : A → InstanceKey) (d : A) where
         go true e = ap (λ (m : ℕ). same_key (key (get_or l i d)) (key (get_or l m d))) (sym (eqb-true i j e)) ∙ is_true _ (same_key_refl (key (get_or l i d)))
         go false e = apart_at l i j apart h k (eqb-false i j e)
 
+    -- one element has one number
+    pub number_once : (i j : ℕ) → i < length l → j < length l → get_or l i d ≡ get_or l j d → i ≡ j
+    number_once i j h k e =
+        eqb-true i j
+        (sym (same_number i j h k) ∙ ap (λ (a : A). same_key (key (get_or l i d)) (key a)) (sym e) ∙ is_true _ (same_key_refl (key (get_or l i d))))
+
     abbrev key_at : ℕ → InstanceKey
     key_at i = key (get_or l i d)
 
