@@ -3,7 +3,7 @@
 
 ghost use Rattle.std.specs.Prelude.{[], ◌∷◌, ◌≤◌, ◌<◌, ◌≡◌, ◌↔◌, IsTrue, length};
 ghost use Rattle.model.specs.FileOf.{bytes_of};
-ghost use Rattle.words.specs.Appending.{with_bytes};
+ghost use Rattle.words.specs.Appending.{with_bytes, Appended, Front};
 ghost use Rattle.words.specs.Numerals.{decimal_of, hex_digits, hex_digit};
 
 use arrayvec::ArrayVec;
@@ -87,6 +87,16 @@ impl<const N: usize> Buffer<N> {
             self.push(hex_digit(number % 16));
         }
     }
+}
+
+// Bytes into lent ones, as far as these reach: how many there are. Those behind stay.
+pub fn put_front(bytes: &[u8], out: &mut [u8]) -> usize
+    ensures appended { Appended out.old 0 bytes.now out.new result }
+    ensures front { Front result out.new }
+{
+    let size = bytes.len().min(out.len());
+    out[..size].copy_from_slice(&bytes[..size]);
+    size
 }
 
 fn hex_digit(digit: u64) -> u8
