@@ -49,6 +49,13 @@ impl TinyPrng {
         Self { state: seed }
     }
 
+    // The state, to go on from by `new`.
+    pub fn state(&self) -> u64
+        ensures { result ≡ self.now }
+    {
+        self.state
+    }
+
     pub fn next_u64(&mut self) -> u64
         ensures value { result ≡ value_of (next_state self.old) }
         ensures state { self.new ≡ next_state self.old }

@@ -1,4 +1,4 @@
--- A refusal is never numbered 0, so that number is free for a plan; and what 15 and 16 say of the file.
+-- Refusals are numbered 1 to 17, so the number 0 is free for a plan; and what 15 and 16 say of the file.
 use Rattle.std.specs.Prelude.{if◌then◌else◌}
 use Prim.Native.Nat.{ℕ}
 use native.Mathlib.Omega.{arith}
@@ -24,21 +24,21 @@ use Rattle.model.specs.Outcome.{Outcome, least_workspace, is_late, clears, clear
 use Rattle.trust.specs.PieceRules.{PieceRules}
 use Rattle.trust.specs.Trusted.{Trusted}
 use Rattle.trust.proofs.Truth.{and_split}
-use Rattle.trust.proofs.Numbers.{two_digits, file_early}
-use Rattle.trust.proofs.Cleared.{late_digits}
+use Rattle.trust.proofs.Numbers.{is_number, early_number, file_early}
+use Rattle.trust.proofs.Cleared.{late_number}
 use Rattle.trust.proofs.PlanTrusted.{trusted_outcome}
 use Rattle.trust.proofs.NoPlan.{no_plan_outcome}
 use Rattle.optimizer.specs.Promise.{number_of_answer}
 
--- a refusal's number has one or two digits and is not 0
+-- a refusal's number
 abbrev pub Numbered : Answered → Type 0
 Numbered (plan words) = Unit {0}
-Numbered (refused n) = T (two_digits n)
+Numbered (refused n) = T (is_number n)
 
 -- ---- every answer
 
-file_number : (f : List ℕ) (n : ℕ) → file_refusal f ≡ some n → T (two_digits n)
-file_number f n e = (and_split (two_digits n) (not (is_late n)) (file_early f n e)).0
+file_number : (f : List ℕ) (n : ℕ) → file_refusal f ≡ some n → T (is_number n)
+file_number f n e = early_number n (file_early f n e)
 
 searched_numbered : (layout : LayoutKind) (inst : ProblemInstance) (n : SearchNumbers) → Numbered (searched heuristic_variants layout inst n)
 unfolding searched solution
@@ -46,7 +46,7 @@ searched_numbered layout inst n = go (prefilter inst) refl (winner heuristic_var
   where
     go : (q : Option ℕ) → prefilter inst ≡ q → (o : Option Candidate)
         → Numbered (elim q [ some k ↦ refused k | none ↦ elim o [ none ↦ refused 17 | some c ↦ solution layout c ] ])
-    go (some k) e o = late_digits inst k e
+    go (some k) e o = late_number inst k e
     go none e none = tt
     go none e (some c) = tt
 
@@ -82,7 +82,7 @@ outcome_numbered f w p = go (too_small w p)
 
 zero_planned : (a : Answered) → Numbered a → number_of_answer a ≡ 0 → (words : List ℕ) × (a ≡ plan words)
 zero_planned (plan words) h e = (words, refl)
-zero_planned (refused n) h e = absurd (subst (λ (m : ℕ). T (two_digits m)) e h)
+zero_planned (refused n) h e = absurd (subst (λ (m : ℕ). T (is_number m)) e h)
 
 pub zero_trusted : (f w p : List ℕ) → number_of_answer (outcome f w p).answer ≡ 0 → Trusted f (outcome f w p).plan
 zero_trusted f w p e =

@@ -22,7 +22,7 @@ use Rattle.model.specs.Answer.{Answer, plan, refused, answer}
 use Rattle.model.specs.Outcome.{least_workspace, least_plan}
 use Rattle.model.proofs.Memory.{outcome_answer, plan_first}
 use Rattle.trust.proofs.Truth.{and_split}
-use Rattle.trust.proofs.Numbers.{two_digits}
+use Rattle.trust.proofs.Numbers.{is_number}
 use Rattle.trust.proofs.Answer.{instance_of}
 use Rattle.trust.proofs.Ranges.{Byte, ranged}
 use Rattle.trust.proofs.CandidateSize.{piece_count, candidate_counts}
@@ -85,7 +85,7 @@ refusal_most n h =
       keyword,
       length-append (ascii "refused ") (decimal_of n ++ (10 ∷ [])),
       length-append (decimal_of n) (10 ∷ []),
-      two_digits_most n (ltb→lt n 100 (and_split (ltb 0 n) (ltb n 100) h).1),
+      two_digits_most n (omega (arith, ltb→lt n 18 (and_split (ltb 0 n) (ltb n 18) h).1)),
     )
 
 pub longest : (file : List ℕ) → All Byte file → length (printed file) ≤ most_text
@@ -99,7 +99,7 @@ longest file b = go (planned file).answer refl (outcome_numbered file (replicate
     go (plan words) e h =
         rw (e, plan_first file (replicate least_workspace 0) (replicate least_plan 0) (omega (arith, length-replicate {A = ℕ} least_workspace 0)) (omega (arith, length-replicate {A = ℕ} least_plan 0)) words (sym same_answer ∙ e))
         (text_most file b words _ (sym same_answer ∙ e) (all_drop Word (length words) _ (zeros least_plan)))
-    go (refused n) e h = rw (e, ne_eqb n 0 (λ z. subst (λ (m : ℕ). T (two_digits m)) z h)) (refusal_most n h)
+    go (refused n) e h = rw (e, ne_eqb n 0 (λ z. subst (λ (m : ℕ). T (is_number m)) z h)) (refusal_most n h)
 
 pub whole : (file held : List ℕ) (room : ℕ) → ((i : ℕ) → get_or file i 0 < 256) → most_text ≤ room → held ≡ [] → with_bytes room held (printed file) ≡ printed file
 unfolding with_bytes

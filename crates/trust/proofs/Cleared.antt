@@ -29,20 +29,13 @@ use Rattle.lists.proofs.Perm.{length_perm}
 use Rattle.trust.specs.Proper.{placed_cuts}
 use Rattle.trust.proofs.Truth.{and_split}
 use Rattle.trust.proofs.Answer.{instance_of, FromWinner, not_refused, plan_from_winner}
-use Rattle.trust.proofs.Numbers.{two_digits, EarlyNumber, file_early}
+use Rattle.trust.proofs.Numbers.{is_number, early_not_late, file_early}
 
 -- ---- a file that a check refuses, and one without panels
 
-not_late : (b : Bool) → T (not b) → b ≡ false
-not_late true h = absurd h
-not_late false h = refl
-
-early : (n : ℕ) → EarlyNumber n → is_late n ≡ false
-early n h = not_late (is_late n) (and_split (two_digits n) (not (is_late n)) h).1
-
 pub file_kept : (f : List ℕ) (n : ℕ) → file_refusal f ≡ some n → clears (answer f) ≡ false
 unfolding answer answer_with clears
-file_kept f n e = rw (e, answer_with) (early n (file_early f n e))
+file_kept f n e = rw (e, answer_with) (early_not_late n (file_early f n e))
 
 pub empty_kept : (f : List ℕ) → file_refusal f ≡ none → (instance_of f).cuts ≡ [] → clears (answer f) ≡ false
 unfolding answer answer_with optimized clears plan_words
@@ -59,21 +52,21 @@ late_prefilter inst k e = go _ _ e
     go false true h = ap is_late (sym (some-injective 16 k h))
     go false false h = absurd (none-ne-some k h)
 
-late_two_digits : (k : ℕ) → is_late k ≡ true → T (two_digits k)
+late_is_number : (k : ℕ) → is_late k ≡ true → T (is_number k)
 unfolding is_late
-late_two_digits k e = go (eqb k 15) (eqb k 16) (eqb k 17) refl refl refl e
+late_is_number k e = go (eqb k 15) (eqb k 16) (eqb k 17) refl refl refl e
   where
-    digits : (n : ℕ) → T (two_digits n) → k ≡ n → T (two_digits k)
-    digits n h f = subst (λ (m : ℕ). T (two_digits m)) (sym f) h
+    digits : (n : ℕ) → T (is_number n) → k ≡ n → T (is_number k)
+    digits n h f = subst (λ (m : ℕ). T (is_number m)) (sym f) h
 
-    go : (a b c : Bool) → eqb k 15 ≡ a → eqb k 16 ≡ b → eqb k 17 ≡ c → (a || b || c) ≡ true → T (two_digits k)
+    go : (a b c : Bool) → eqb k 15 ≡ a → eqb k 16 ≡ b → eqb k 17 ≡ c → (a || b || c) ≡ true → T (is_number k)
     go true b c f g h i = digits 15 tt (eqb-true k 15 f)
     go false true c f g h i = digits 16 tt (eqb-true k 16 g)
     go false false true f g h i = digits 17 tt (eqb-true k 17 h)
     go false false false f g h i = absurd (false≢true i)
 
-pub late_digits : (inst : ProblemInstance) (k : ℕ) → prefilter inst ≡ some k → T (two_digits k)
-late_digits inst k e = late_two_digits k (late_prefilter inst k e)
+pub late_number : (inst : ProblemInstance) (k : ℕ) → prefilter inst ≡ some k → T (is_number k)
+late_number inst k e = late_is_number k (late_prefilter inst k e)
 
 number_in : Answer → ℕ
 number_in (plan words) = 0

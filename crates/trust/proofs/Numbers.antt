@@ -1,11 +1,14 @@
--- The numbers of a file's refusals: one or two digits and not 0, and none is one of those whose place is after 14's.
+-- Refusals are numbered 1 to 17, and those of a file 1 to 14.
 use Rattle.std.specs.Prelude.{if◌then◌else◌}
-use Prim.Native.Nat.{ℕ, ◌+◌}
+use Prim.Native.Nat.{ℕ, ◌+◌, ◌≤◌}
+use native.Mathlib.Omega.{arith}
 use mathlib.Core.Path.{◌≡◌, subst}
-use mathlib.Core.Bool.{Bool, true, false, not, ◌&&◌}
+use mathlib.Core.Bool.{Bool, true, false, ◌&&◌}
 use mathlib.Core.List.{List, [], ◌∷◌, ◌++◌}
 use mathlib.Core.Option.{none, some, some-injective, none-ne-some}
-use lib.Dec.{T, ltb}
+use lib.Dec.{T, ltb, ltb→lt}
+use borrow.Author.Tests.{lt-ltb, ne_eqb}
+use Rattle.trust.proofs.Truth.{and_split}
 use Rattle.lists.specs.Base.{◌<|>◌}
 use Rattle.lists.specs.Elements.{All}
 use Rattle.model.specs.Project.{Record, Project, project_of, well_formed}
@@ -13,11 +16,24 @@ use Rattle.model.specs.Refusal.{Check, RecordRule, first_that_applies, stock_rul
 use Rattle.model.specs.Outcome.{is_late}
 use Rattle.lists.proofs.Perm.{all_append}
 
-abbrev pub two_digits : ℕ → Bool
-two_digits n = ltb 0 n && ltb n 100
+abbrev pub is_number : ℕ → Bool
+is_number n = ltb 0 n && ltb n 18
 
 abbrev pub EarlyNumber : ℕ → Type 0
-EarlyNumber n = T (two_digits n && not (is_late n))
+EarlyNumber n = T (ltb 0 n && ltb n 15)
+
+early_most : (n : ℕ) → EarlyNumber n → n ≤ 14
+early_most n h = omega (arith, ltb→lt n 15 (and_split (ltb 0 n) (ltb n 15) h).1)
+
+pub early_number : (n : ℕ) → EarlyNumber n → T (is_number n)
+early_number n h =
+    rw (lt-ltb 0 n (ltb→lt 0 n (and_split (ltb 0 n) (ltb n 15) h).0), lt-ltb n 18 (omega (arith, early_most n h))) tt
+
+pub early_not_late : (n : ℕ) → EarlyNumber n → is_late n ≡ false
+unfolding is_late
+early_not_late n h =
+    let most = early_most n h in
+    rw (ne_eqb n 15 (λ e. omega (arith, most, e)), ne_eqb n 16 (λ e. omega (arith, most, e)), ne_eqb n 17 (λ e. omega (arith, most, e)))
 
 abbrev Early : Check → Type 0
 Early c = EarlyNumber c.0
@@ -41,15 +57,15 @@ record_early rule f seen count (p ∷ ps) =
     all_append Early (rule seen count p) (record_checks rule (p.id ∷ seen) (count + p.quantity) ps) (f seen count p) (record_early rule f (p.id ∷ seen) (count + p.quantity) ps)
 
 stock_early : (seen : List ℕ) (count : ℕ) (p : Record) → All Early (stock_rule seen count p)
-unfolding stock_rule is_late
+unfolding stock_rule
 stock_early seen count p = (tt, (tt, (tt, (tt, (tt, (tt, tt))))))
 
 cut_early : (seen : List ℕ) (count : ℕ) (p : Record) → All Early (cut_rule seen count p)
-unfolding cut_rule is_late
+unfolding cut_rule
 cut_early seen count p = (tt, (tt, (tt, (tt, (tt, (tt, tt))))))
 
 project_early : (p : Project) → All Early (project_checks p)
-unfolding project_checks settings_checks whole_checks is_late
+unfolding project_checks settings_checks whole_checks
 project_early p =
     let stock = record_checks stock_rule [] 0 p.stock in
     let cuts = record_checks cut_rule [] 0 p.cuts in
@@ -59,9 +75,12 @@ project_early p =
 
 -- of any file
 pub file_early : (file : List ℕ) (k : ℕ) → file_refusal file ≡ some k → EarlyNumber k
-unfolding file_refusal file_checks is_late
+unfolding file_refusal file_checks
 file_early file k e = first_early (file_checks file) k (tt, go (well_formed file)) e
   where
     go : (b : Bool) → All Early (if b then project_checks (project_of file) else [])
     go true = project_early (project_of file)
     go false = tt
+
+pub file_number : (file : List ℕ) (k : ℕ) → file_refusal file ≡ some k → k ≤ 14
+file_number file k e = early_most k (file_early file k e)
