@@ -1,5 +1,5 @@
--- Nodes in the place of one, and a cut around some.
-use Rattle.std.specs.Prelude.{ℕ, ◌+◌, List, ◌++◌, Option, None, Some, take, drop, insert}
+-- Nodes in the place of one, and what a cut puts before and behind others.
+use Rattle.std.specs.Prelude.{ℕ, ◌+◌, List, [], ◌∷◌, ◌++◌, Option, None, Some, take, drop}
 use Rattle.guide.specs.declared.subtree.Node.{Node}
 use Rattle.guide.specs.declared.subtree.CutOff.{CutOff}
 
@@ -7,7 +7,11 @@ use Rattle.guide.specs.declared.subtree.CutOff.{CutOff}
 abbrev pub spliced : {A : Type 0} → List A → ℕ → List A → List A
 spliced nodes at others = take at nodes ++ (others ++ drop (at + 1) nodes)
 
--- nodes of which those from one number to another stand between a cut and the remainder that it takes off
-abbrev pub surrounded : List Node → ℕ → ℕ → Option CutOff → List Node
-surrounded nodes at behind None = nodes
-surrounded nodes at behind (Some c) = insert (insert nodes behind c.remainder) at c.cut
+-- the two nodes of a cut, if there is one: it stands before what it cuts, and the remainder that it takes off behind
+abbrev pub before_nodes : Option CutOff → List Node
+before_nodes None = []
+before_nodes (Some c) = c.cut ∷ []
+
+abbrev pub after_nodes : Option CutOff → List Node
+after_nodes None = []
+after_nodes (Some c) = c.remainder ∷ []

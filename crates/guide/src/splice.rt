@@ -1,37 +1,77 @@
 // A subtree's nodes in the place of a guide's node.
 
-ghost use Rattle.std.specs.Prelude.{◌≡◌, ◌+◌, ◌≤◌, ◌<◌, [], length};
+ghost use Rattle.std.specs.Prelude.{◌≡◌, ◌+◌, ◌≤◌, ◌<◌, [], length, take, option_to_list};
+ghost use Rattle.lists.specs.Parts.{patch};
 ghost use Rattle.guide.specs.Nodes.{around, subtree_nodes};
-ghost use Rattle.guide.specs.Splices.{spliced, surrounded};
+ghost use Rattle.guide.specs.Splices.{spliced, before_nodes, after_nodes};
 
 use super::subtree::{CutOff, Node, Subtree};
 use arrayvec::ArrayVec;
 
-// Puts the nodes from `at` to `behind` under a cut, if there is one: the cut goes before them and its remainder behind them. Answers the number past both.
-fn surround<const N: usize>(
-    guide: &mut ArrayVec<Node, N>,
-    at: usize,
-    behind: usize,
-    c: Option<CutOff>,
-) -> usize
-    requires { (at ≤ behind) × (behind ≤ length guide.old.items) × (length guide.old.items + length (around c []) ≤ N) }
-    ensures nodes { guide.new.items ≡ surrounded guide.old.items at behind c }
-    ensures past { result ≡ behind + length (around c []) }
+// How many nodes a cut adds, if there is one: itself and its remainder.
+fn extra_nodes(c: Option<CutOff>) -> usize
+    ensures { result ≡ length (around c []) }
 {
-    let Some(c) = c else {
-        return behind;
-    };
-    guide.insert(behind, c.remainder);
-    guide.insert(at, c.cut);
-    behind + 2
+    match c {
+        Some(_) => 2,
+        None => 0,
+    }
 }
 
-// The subtree's nodes in the place of a node: those behind it move up.
+// The cut goes before what it cuts, if there is one. Answers the number past it.
+fn put_before(nodes: &mut [Node], at: usize, c: Option<CutOff>) -> usize
+    requires { at + length (before_nodes c) ≤ length nodes.old }
+    ensures nodes { nodes.new ≡ patch nodes.old at (before_nodes c) }
+    ensures past { result ≡ at + length (before_nodes c) }
+{
+    let Some(c) = c else {
+        return at;
+    };
+    nodes[at] = c.cut;
+    at + 1
+}
+
+// The remainder goes behind it.
+fn put_after(nodes: &mut [Node], at: usize, c: Option<CutOff>) -> usize
+    requires { at + length (after_nodes c) ≤ length nodes.old }
+    ensures nodes { nodes.new ≡ patch nodes.old at (after_nodes c) }
+    ensures past { result ≡ at + length (after_nodes c) }
+{
+    let Some(c) = c else {
+        return at;
+    };
+    nodes[at] = c.remainder;
+    at + 1
+}
+
+// The subtree's nodes, from a number on.
+fn put_subtree(nodes: &mut [Node], at: usize, subtree: Subtree)
+    requires { at + length (subtree_nodes subtree) ≤ length nodes.old }
+    ensures { nodes.new ≡ patch nodes.old at (subtree_nodes subtree) }
+{
+    let inside = put_before(nodes, at, subtree.outer);
+    let piece = put_before(nodes, inside, subtree.inner);
+    nodes[piece] = subtree.piece;
+    let outside = put_after(nodes, piece + 1, subtree.inner);
+    put_after(nodes, outside, subtree.outer);
+}
+
+// Of the first `end` nodes those behind `at` move up to the end, and the subtree goes where they make room.
+fn put_spliced(nodes: &mut [Node], end: usize, at: usize, subtree: Subtree)
+    requires { (at < end) × (end ≤ length nodes.old) × (end + length (subtree_nodes subtree) ≡ length nodes.old + 1) }
+    ensures { nodes.new ≡ spliced (take end nodes.old) at (subtree_nodes subtree) }
+{
+    nodes.copy_within(at + 1..end, at + 1 + (nodes.len() - end));
+    put_subtree(nodes, at, subtree);
+}
+
+// The subtree's nodes in the place of a node: those behind it move up, all at once.
 pub fn splice<const N: usize>(guide: &mut ArrayVec<Node, N>, at: usize, subtree: Subtree)
     requires { (at < length guide.old.items) × (length guide.old.items + length (subtree_nodes subtree) ≤ N + 1) }
     ensures { guide.new.items ≡ spliced guide.old.items at (subtree_nodes subtree) }
 {
-    guide[at] = subtree.piece;
-    let behind = surround(guide, at, at + 1, subtree.inner);
-    surround(guide, at, behind, subtree.outer);
+    let end = guide.len();
+    let extra = extra_nodes(subtree.outer) + extra_nodes(subtree.inner);
+    let _fits = guide.try_extend_from_slice(&[subtree.piece; 4][..extra]);
+    put_spliced(guide.as_mut_slice(), end, at, subtree);
 }

@@ -1,70 +1,79 @@
--- A cut put around nodes, and a subtree's nodes in the place of one.
+-- A subtree's nodes put one after the other, and those behind a node moved up to make room for them.
 use Rattle.std.specs.Prelude.{Option, None, Some}
-use Rattle.std.specs.List.{insert, refill}
-use Rattle.std.proofs.lemmas.List.{set_split}
-use Rattle.std.proofs.Math.Numerals.{add-one}
-use Rattle.arrayvec.proofs.ArrayVecLemmas.{items-with_items}
 use mathlib.Core.Path.{◌≡◌, refl, sym, ap, ap₂, ◌∙◌}
-use mathlib.Core.List.{List, [], ◌∷◌, ◌++◌, append_assoc}
-use Prim.Native.Nat.{ℕ, ◌+◌, ◌≤◌, ◌<◌}
+use mathlib.Core.List.{List, [], ◌∷◌, ◌++◌, append_assoc, append-nil}
+use Prim.Native.Nat.{ℕ, ◌+◌, ◌-◌, ◌≤◌, ◌<◌}
 use native.Mathlib.Omega.{arith}
-use lib.ListN.{length, take, drop, set, length-append, length-take, length-drop, length-set}
-use lib.Seq.{take_at, drop_at}
+use lib.ListN.{length, take, drop, set, length-append, length-drop}
+use lib.Seq.{take-take, paste}
+use Rattle.lists.specs.Parts.{part, patch}
+use Rattle.lists.proofs.Arrays.{length_zero}
+use Rattle.lists.proofs.Parts.{set_patch, then_patch, patch_front, paste_patch, length_part, drop_take_add}
 use Rattle.guide.specs.declared.subtree.Node.{Node}
 use Rattle.guide.specs.declared.subtree.CutOff.{CutOff}
 use Rattle.guide.specs.declared.subtree.Subtree.{Subtree}
 use Rattle.guide.specs.Nodes.{around, subtree_nodes}
-use Rattle.guide.specs.Splices.{spliced, surrounded}
+use Rattle.guide.specs.Splices.{spliced, before_nodes, after_nodes}
 
-inserted : (xs front back : List Node) (i : ℕ) (x : Node) → xs ≡ front ++ back → length front ≡ i → insert xs i x ≡ front ++ (x ∷ back)
-inserted xs front back i x e l =
-    ap₂ (λ (a b : List Node). a ++ (x ∷ b)) (ap (take i) e ∙ take_at front back i l) (ap (drop i) e ∙ drop_at front back i l)
+around_is : (c : Option CutOff) (nodes : List Node) → around c nodes ≡ before_nodes c ++ (nodes ++ after_nodes c)
+around_is None nodes = sym (append-nil nodes)
+around_is (Some c) nodes = refl
 
--- whichever nodes those from one number to another are
-record Surrounds (before after : List Node) (at behind past : ℕ) (c : Option CutOff) : Type 0 where
-  surrounds : (front nodes back : List Node) → before ≡ front ++ (nodes ++ back) → length front ≡ at → at + length nodes ≡ behind
-      → (after ≡ front ++ (around c nodes ++ back)) × (past ≡ at + length (around c nodes))
+module _ (s : Subtree) where
+  abbrev bo : List Node
+  bo = before_nodes s.outer
 
-around_length : (c : Option CutOff) (nodes : List Node) → length (around c nodes) ≡ length (around c []) + length nodes
-around_length None nodes = omega arith
-around_length (Some c) nodes = omega (arith, length-append nodes (c.remainder ∷ []))
+  abbrev bi : List Node
+  bi = before_nodes s.inner
 
-surrounded_is : (xs zs : List Node) (at behind past : ℕ) (c : Option CutOff) → zs ≡ surrounded xs at behind c → past ≡ behind + length (around c []) → Surrounds xs zs at behind past c
-surrounded_is xs zs at behind past c e p =
-    record { surrounds = λ front nodes back f l m. (e ∙ go c front nodes back f l m, omega (arith, p, m, around_length c nodes)) }
+  abbrev p : List Node
+  p = s.piece ∷ []
+
+  abbrev ai : List Node
+  ai = after_nodes s.inner
+
+  abbrev ao : List Node
+  ao = after_nodes s.outer
+
+  pub subtree_is : subtree_nodes s ≡ bo ++ (bi ++ (p ++ (ai ++ ao)))
+  subtree_is =
+      around_is s.outer (around s.inner p)
+      ∙ ap (λ (l : List Node). bo ++ (l ++ ao)) (around_is s.inner p)
+      ∙ ap (λ (l : List Node). bo ++ l) (append_assoc bi (p ++ ai) ao)
+
+  pub subtree_length : length (subtree_nodes s) ≡ length bo + (length bi + (1 + (length ai + length ao)))
+  subtree_length =
+      omega (arith, ap length subtree_is, length-append bo (bi ++ (p ++ (ai ++ ao))), length-append bi (p ++ (ai ++ ao)), length-append p (ai ++ ao), length-append ai ao)
+
+  pub put_five : (l₀ l₁ l₂ l₃ l₄ l₅ : List Node) (at inside piece outside : ℕ) → at + length (subtree_nodes s) ≤ length l₀
+      → l₁ ≡ patch l₀ at bo → inside ≡ at + length bo → l₂ ≡ patch l₁ inside bi → piece ≡ inside + length bi → l₃ ≡ set l₂ piece s.piece
+      → l₄ ≡ patch l₃ (piece + 1) ai → outside ≡ piece + 1 + length ai → l₅ ≡ patch l₄ outside ao
+      → length l₁ ≡ length l₀ → length l₂ ≡ length l₀ → length l₃ ≡ length l₀
+      → l₅ ≡ patch l₀ at (subtree_nodes s)
+  put_five l₀ l₁ l₂ l₃ l₄ l₅ at inside piece outside h e₁ k₁ e₂ k₂ e₃ e₄ k₄ e₅ s₁ s₂ s₃ =
+      let whole = subtree_length in
+      then_patch l₀ l₁ l₅ at bo (bi ++ (p ++ (ai ++ ao))) inside e₁
+      (then_patch l₁ l₂ l₅ inside bi (p ++ (ai ++ ao)) piece e₂
+      (then_patch l₂ l₃ l₅ piece p (ai ++ ao) (piece + 1) (e₃ ∙ set_patch l₂ piece s.piece (omega arith))
+      (then_patch l₃ l₄ l₅ (piece + 1) ai ao outside e₄ e₅ k₄ (omega arith))
+      refl (omega arith))
+      k₂ (omega arith))
+      k₁ (omega arith)
+      ∙ ap (patch l₀ at) (sym subtree_is)
+
+-- those behind a node moved up to the end, and others from the node on
+pub moved_spliced : (l others : List Node) (e at by : ℕ) → at < e → e ≤ length l → e + length others ≡ length l + 1 → by ≡ length l - e
+    → patch (paste l (at + 1 + by) (drop (at + 1) l) (e - (at + 1))) at others ≡ spliced (take e l) at others
+moved_spliced l others e at by h fits long b =
+    let back : List Node = part l (at + 1) (e - (at + 1)) in
+    let size : length back ≡ e - (at + 1) = length_part l (at + 1) (e - (at + 1)) (omega arith) in
+    let reach : at + 1 + (e - (at + 1)) ≡ e = omega arith in
+    let behind : back ≡ drop (at + 1) (take e l) = sym (drop_take_add (at + 1) (e - (at + 1)) l) ∙ ap (λ (n : ℕ). drop (at + 1) (take n l)) reach in
+    let far : length l ≤ at + length (others ++ back) = omega (arith, length-append others back) in
+    ap (λ (m : List Node). patch m at others) (paste_patch l (at + 1 + by) (drop (at + 1) l) (e - (at + 1)) (omega (arith, length-drop (at + 1) l)))
+    ∙ patch_front l (at + 1 + by) at others back (omega arith) (omega arith)
+    ∙ ap₂ (λ (x y : List Node). x ++ ((others ++ back) ++ y)) (sym (take-take at e l (omega arith))) (nothing (at + length (others ++ back)) far)
+    ∙ ap (λ (r : List Node). take at (take e l) ++ r) (append-nil (others ++ back) ∙ ap (λ (r : List Node). others ++ r) behind)
   where
-    go : (c : Option CutOff) (front nodes back : List Node) → xs ≡ front ++ (nodes ++ back) → length front ≡ at → at + length nodes ≡ behind
-        → surrounded xs at behind c ≡ front ++ (around c nodes ++ back)
-    go None front nodes back f l m = f
-    go (Some c) front nodes back f l m =
-        inserted (insert xs behind c.remainder) front (nodes ++ (c.remainder ∷ back)) at c.cut
-        (inserted xs (front ++ nodes) back behind c.remainder (f ∙ sym (append_assoc front nodes back)) (omega (arith, l, m, length-append front nodes))
-        ∙ append_assoc front nodes (c.remainder ∷ back)) l
-        ∙ ap (λ (l : List Node). front ++ (c.cut ∷ l)) (sym (append_assoc nodes (c.remainder ∷ []) back))
-
--- an element written through the slice
-pub written : (xs ws : List Node) (at : ℕ) (x : Node) → ws ≡ xs → at < length xs → refill (length xs) xs (set ws at x) ≡ take at xs ++ (x ∷ drop (at + 1) xs)
-written xs ws at x e h =
-    ap (λ (l : List Node). refill (length xs) xs (set l at x)) e
-    ∙ items-with_items (record { items = xs }) (set xs at x) (length-set xs at x) ∙ set_split xs at x h
-    ∙ ap (λ (n : ℕ). take at xs ++ (x ∷ drop n xs)) (sym (add-one at))
-
--- a subtree around its piece
-module _ (xs ps ys : List Node) (at behind : ℕ) (s : Subtree) (h : at < length xs) (e : ps ≡ take at xs ++ (s.piece ∷ drop (at + 1) xs)) (inner : ys ≡ surrounded ps at (at + 1) s.inner) (past_inner : behind ≡ at + 1 + length (around s.inner [])) where
-  front_length : length (take at xs) ≡ at
-  front_length = omega (arith, length-take at xs)
-
-  first : (ys ≡ take at xs ++ (around s.inner (s.piece ∷ []) ++ drop (at + 1) xs)) × (behind ≡ at + length (around s.inner (s.piece ∷ [])))
-  first = (surrounded_is ps ys at (at + 1) behind s.inner inner past_inner).surrounds (take at xs) (s.piece ∷ []) (drop (at + 1) xs) e front_length refl
-
-  pub outer_room : {room : ℕ} → length xs + length (subtree_nodes s) ≤ room + 1 → (at ≤ behind) × (behind ≤ length ys) × (length ys + length (around s.outer []) ≤ room)
-  outer_room few =
-      let inside : List Node = around s.inner (s.piece ∷ []) in
-      let long : length ys ≡ length (take at xs) + (length inside + length (drop (at + 1) xs)) =
-      ap length first.0 ∙ length-append (take at xs) (inside ++ drop (at + 1) xs) ∙ ap (λ (n : ℕ). length (take at xs) + n) (length-append inside (drop (at + 1) xs))
-      in
-      let whole = around_length s.outer inside in
-      (omega (arith, first.1), omega (arith, first.1, front_length), omega (arith, front_length, length-drop (at + 1) xs))
-
-  pub subtree_spliced : (zs : List Node) → zs ≡ surrounded ys at behind s.outer → zs ≡ spliced xs at (subtree_nodes s)
-  subtree_spliced zs outer = ((surrounded_is ys zs at behind _ s.outer outer refl).surrounds (take at xs) (around s.inner (s.piece ∷ [])) (drop (at + 1) xs) first.0 front_length (sym first.1)).0
+    nothing : (n : ℕ) → length l ≤ n → drop n l ≡ []
+    nothing n k = length_zero (drop n l) (omega (arith, length-drop n l))
