@@ -1,5 +1,5 @@
 -- A word of an insertion gives back its board, its cut and its heuristic.
-use Prim.Native.Nat.{ℕ, ◌+◌, ◌*◌, ◌/◌, ◌%◌, ◌≤◌, ◌<◌}
+use Prim.Native.Nat.{ℕ, zero, suc, ◌+◌, ◌*◌, ◌/◌, ◌%◌, ◌≤◌, ◌<◌}
 use native.Mathlib.Omega.{arith}
 use mathlib.Core.Path.{◌≡◌, refl, ap, ◌∙◌}
 use Rattle.model.specs.declared.GuillotineRectChoice.{GuillotineRectChoice}
@@ -56,6 +56,16 @@ code_back h =
       split = (ap split_of second ∙ split_back h.split) j;
       rotation = (ap rotation_of third ∙ rotation_back h.rotation) j;
     }
+
+-- a code above 1, and above 0
+pub above_one : {A : Type 0} (f : ℕ → A) (a : A) → ((n : ℕ) → a ≡ f (suc (suc n))) → (n : ℕ) → (n ≡ 0 → ⊥) → (n ≡ 1 → ⊥) → a ≡ f n
+above_one f a e zero h k = absurd (h refl)
+above_one f a e (suc zero) h k = absurd (k refl)
+above_one f a e (suc (suc n)) h k = e n
+
+pub above_zero : {A : Type 0} (f : ℕ → A) (a : A) → ((n : ℕ) → a ≡ f (suc n)) → (n : ℕ) → (n ≡ 0 → ⊥) → a ≡ f n
+above_zero f a e zero h = absurd (h refl)
+above_zero f a e (suc n) h = e n
 
 -- ---- an insertion
 

@@ -63,6 +63,17 @@ pub record CrossedTo (inst : ProblemInstance) (h : BaselineGuillotineHeuristic) 
   pub least : count ≤ size
   pub most : 2 * size ≤ 2 * count + i
 
+pub crossed_none : (inst : ProblemInstance) (h : BaselineGuillotineHeuristic) (ws : List ℕ) (base count : ℕ) → AllStand inst ws base count → CrossedTo inst h ws base count 0 count ws
+crossed_none inst h ws base count s =
+    record {
+      done = [];
+      holds = record { is = sym (append-nil (population_in inst ws base count)); stands = s };
+      rest = refl;
+      only = only_none (base + count) (base + 48) ws;
+      least = omega arith;
+      most = omega arith;
+    }
+
 module _ (inst : ProblemInstance) (h : BaselineGuillotineHeuristic) (before ws : List ℕ) (base count i size : ℕ) (c : CrossedTo inst h before base count i size ws) where
   -- the parents are as they were
   module _ (k slot : ℕ) (at : slot ≡ base + k) (l : k < count) where

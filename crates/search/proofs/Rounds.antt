@@ -1,7 +1,7 @@
 -- The rounds of a search, and the choice after the last.
 use Prim.Native.Nat.{ℕ, suc, ◌+◌, ◌-◌, ◌*◌, ◌≤◌, ◌<◌}
 use native.Mathlib.Omega.{arith}
-use mathlib.Core.Path.{◌≡◌, sym, ap, ◌∙◌, subst}
+use mathlib.Core.Path.{◌≡◌, refl, sym, ap, ◌∙◌, subst}
 use mathlib.Core.Logic.{inl, inr}
 use mathlib.Core.List.{List, map}
 use lib.ListN.{length}
@@ -49,6 +49,17 @@ module _ (inst : ProblemInstance) (h : BaselineGuillotineHeuristic) (survivors :
     pub stands : AllStand inst ws base count
     pub rest : run_generations inst h survivors (rounds - round) (population_in inst ws base count) ≡ run_generations inst h survivors rounds first
     pub only : OnlySlots 0 96 before ws
+
+  pub run_none : (rounds : ℕ) (first : List Candidate) (before ws : List ℕ) (count : ℕ) → Stores inst ws 0 count first → count ≤ 32 → OnlySlots 0 96 before ws → RunTo rounds first before 0 0 count ws
+  run_none rounds first before ws count k few o =
+      let z : rounds - 0 ≡ rounds = omega arith in
+      record {
+        region = inl refl;
+        few = few;
+        stands = k.stands;
+        rest = ap (λ (m : ℕ). run_generations inst h survivors m (population_in inst ws 0 count)) z ∙ ap (run_generations inst h survivors rounds) k.is;
+        only = o;
+      }
 
   module _ (rounds : ℕ) (first : List Candidate) (before : List ℕ) (round base count : ℕ) (ws : List ℕ) (u : RunTo rounds first before round base count ws) where
     pub run_step : (after : List ℕ) (to r : ℕ) → to ≡ 48 - base → round < rounds → survivors ≤ 32 → Stores inst after to r (generation inst h survivors (population_in inst ws base count)) → OnlySlots 0 96 ws after

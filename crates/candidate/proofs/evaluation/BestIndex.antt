@@ -33,6 +33,9 @@ module _ (better : Float → Float → Bool) (share : ℕ → Float) (n : ℕ) w
   abbrev pub BestSoFar : ℕ → ℕ → Type 0
   BestSoFar best k = (0 < k) × (k ≤ n) × (best < k) × (keep_best by_share best (count_from k (n - k)) ≡ keep_best by_share 0 (count_from 1 (n - 1)))
 
+  pub best_one : 0 < n → BestSoFar 0 1
+  best_one h = (omega arith, omega arith, omega arith, refl)
+
   step : (best k : ℕ) → k < n → keep_best by_share best (count_from k (n - k)) ≡ keep_best by_share (if by_share k best then k else best) (count_from (k + 1) (n - (k + 1)))
   unfolding keep_best count_from
   step best k h =

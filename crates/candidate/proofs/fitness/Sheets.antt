@@ -1,5 +1,8 @@
 -- The definition's fitness depends only on the sheets' placed areas and board areas.
-use Rattle.std.proofs.Common.{◌≡◌, ℕ, ◌≤◌, List, [], ◌∷◌, map, refl, ap, sym, ◌∙◌}
+use Rattle.std.specs.Prelude.{if◌then◌else◌}
+use Rattle.std.proofs.Common.{◌≡◌, ℕ, ◌+◌, ◌<◌, ◌≤◌, eqb, List, [], ◌∷◌, map, length, refl, ap, sym, ◌∙◌, arith, ne_eqb}
+use mathlib.Core.Option.{none, some, get_or}
+use lib.Dec.{eqb-suc-zero}
 use lib.Ieee.{Float, binary64, add}
 use Rattle.lists.specs.Base.{sum, foldl}
 use Rattle.lists.specs.Elements.{All}
@@ -37,3 +40,14 @@ fitness_areas bins = rw (used_stock_area_areas bins, shares_areas bins positive_
 pub inside_areas : (bins : List GuillotineSheet) → All (λ b. placed_area b ≤ board_area b) bins → WithinBoards (map areas_of bins)
 inside_areas [] h = tt
 inside_areas (b ∷ bins) h = (h.0, inside_areas bins h.1)
+
+-- boards have an area, so that a candidate has a fitness exactly if it has a sheet
+pub fitness_counted : (bins : List GuillotineSheet) → All (λ b. 0 < board_area b) bins
+    → (if eqb (length bins) 0 then none else some (get_or (fitness bins) positive_zero)) ≡ fitness bins
+unfolding fitness used_stock_area sum
+fitness_counted [] h = refl
+fitness_counted (b ∷ bins) h =
+    rw (eqb-suc-zero (length bins), ne_eqb (board_area b + sum (map board_area bins)) 0 (λ e. not_zero (board_area b) (sum (map board_area bins)) h.0 e))
+  where
+    not_zero : (m n : ℕ) → 0 < m → m + n ≡ 0 → ⊥
+    not_zero m n k e = omega arith

@@ -42,6 +42,9 @@ module _ (inst : ProblemInstance) (h : BaselineGuillotineHeuristic) (k : Words) 
     pub stands : Stands inst (drop i order) now
     pub shown : Shown inst free now
 
+  pub placing_none : (free : List (List Rect)) → Stands inst order k → Shown inst free k → Placing free k 0
+  placing_none free st sh = record { words = refl; is = refl; stands = st; shown = sh }
+
   module _ (free : List (List Rect)) (now : Words) (i : ℕ) (p : Placing free now i) where
     stands_here : i < length order → Stands inst (get_or order i 0 ∷ drop (i + 1) order) now
     stands_here inside = subst (λ (l : List ℕ). Stands inst l now) (drop_next order i 0 inside) p.stands

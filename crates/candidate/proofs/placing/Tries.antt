@@ -51,6 +51,10 @@ opened_bare sheets j free opened board s h e = e ∙ ap (λ (q : Bool). opened_i
 pub opened_sheet : (sheets j : ℕ) (free opened : List (List Rect)) (board : ℕ) (s : StockInstance) → j < sheets → opened ≡ free → opened ≡ opened_if (leb sheets j) free board s
 opened_sheet sheets j free opened board s h e = e ∙ ap (λ (q : Bool). opened_if q free board s) (sym (lt-leb sheets j h))
 
+all_same : (free : List (List Rect)) (bs : List ℕ) → All (λ b. rects_on free b ≡ rects_on free b) bs
+all_same free [] = tt
+all_same free (b ∷ bs) = (refl, all_same free bs)
+
 module _ (inst : ProblemInstance) (i : Insertion) (boards : List ℕ) (sheets : ℕ) (before : List (List Rect)) where
   abbrev known : List ℕ
   known = take (length inst.stock) boards
@@ -60,6 +64,10 @@ module _ (inst : ProblemInstance) (i : Insertion) (boards : List ℕ) (sheets : 
     pub room : length free ≡ 64
     pub refused : (bin : ℕ → GuillotineSheet) → Bins inst boards sheets before bin → All (Refuses inst.kerf_width i) (take j (map bin known))
     pub kept : All (λ b. rects_on free b ≡ rects_on before b) (take sheets boards)
+
+  -- before the first board
+  pub tried_none : length before ≡ 64 → Tried before 0
+  tried_none e = record { room = e; refused = λ bin h. tt; kept = all_same before (take sheets boards) }
 
   module _ (ok : Boards inst boards sheets) (fill : All (Fillable inst.kerf_width before) (take sheets boards)) where
     length_known : length known ≡ length inst.stock
@@ -170,10 +178,6 @@ module _ (inst : ProblemInstance) (i : Insertion) (boards : List ℕ) (sheets : 
       opened_ok : Opened opened
       opened_ok = go (leb sheets j) refl
         where
-          all_same : (bs : List ℕ) → All (λ b. rects_on free b ≡ rects_on free b) bs
-          all_same [] = tt
-          all_same (b ∷ bs) = (refl, all_same bs)
-
           go : (q : Bool) → leb sheets j ≡ q → Opened (opened_if q free board stock)
           go true e =
               let bare : sheets ≤ j = leb-true sheets j e in
@@ -187,7 +191,7 @@ module _ (inst : ProblemInstance) (i : Insertion) (boards : List ℕ) (sheets : 
               let sheet : j < sheets = leb-false sheets j e in
               record {
                 fillable = sheet_fillable sheet;
-                kept = all_same (take sheets boards);
+                kept = all_same free (take sheets boards);
                 shows = λ bin h. rw (sheet_rects sheet) (sheet_bin sheet bin h);
                 same = refl;
               }

@@ -1,5 +1,5 @@
--- The language's order of floats, with Equal where there is none, is the definitions'.
-use Rattle.std.proofs.Common.{◌≡◌, Bool, true, false, cond, if◌then◌else◌, refl, Option, Some, None, unwrap_or}
+-- The language's order of floats, with Equal where there is none, is the definitions'; and the order of two scores by each of the ways out of their comparison.
+use Rattle.std.proofs.Common.{◌≡◌, ◌<◌, arith, Bool, true, false, cond, if◌then◌else◌, refl, Option, Some, None, unwrap_or}
 use Prim.Native.Nat.{Ordering as Order}
 use Rattle.std.specs.Prelude.{Float}
 use Rattle.std.specs.Float.Ieee.{lt, eq}
@@ -9,7 +9,11 @@ use Rattle.std.specs.Option.{option_partial_cmp}
 use Rattle.std.proofs.lemmas.Float.{lt_irrefl, lt_trans, eq_flip, eq-not_lt, T_from_true}
 use Rattle.lists.specs.Base.{is_less, is_greater}
 use Rattle.lists.specs.Language.{option_of, order_of}
+use Rattle.lists.proofs.Preorder.{compare_is}
 use Rattle.model.specs.Fitness.{compare_float, compare_fitness}
+use Rattle.model.specs.Candidate.{compare_score}
+use Rattle.candidate.specs.declared.scores.CandidateScore.{CandidateScore}
+use Rattle.candidate.specs.Scores.{score_of}
 
 -- two floats of which one is less are not less the other way round
 not_both : (x y : Float) → lt x y ≡ true → lt y x ≡ false
@@ -62,3 +66,34 @@ less_is x y = go (lt x y) (lt y x)
     go true g = refl
     go false true = refl
     go false false = refl
+
+-- ---- two scores: more sheets are worse, of as many sheets more waste, and of as much waste the fitness decides
+
+module _ (l r : CandidateScore) where
+  pub more_sheets : r.used_stock_count < l.used_stock_count → Order.lt ≡ compare_score (score_of l) (score_of r)
+  unfolding compare_score score_of
+  more_sheets h = rw (compare_is Order.lt _ _ h)
+
+  pub fewer_sheets : l.used_stock_count < r.used_stock_count → Order.gt ≡ compare_score (score_of l) (score_of r)
+  unfolding compare_score score_of
+  fewer_sheets h = rw (compare_is Order.gt _ _ h)
+
+  module _ (same : l.used_stock_count ≡ r.used_stock_count) where
+    pub more_waste : r.waste_area < l.waste_area → Order.lt ≡ compare_score (score_of l) (score_of r)
+    unfolding compare_score score_of
+    more_waste h = rw (compare_is Order.eq r.used_stock_count l.used_stock_count (omega arith), compare_is Order.lt _ _ h)
+
+    pub less_waste : l.waste_area < r.waste_area → Order.gt ≡ compare_score (score_of l) (score_of r)
+    unfolding compare_score score_of
+    less_waste h = rw (compare_is Order.eq r.used_stock_count l.used_stock_count (omega arith), compare_is Order.gt _ _ h)
+
+    module _ (waste : l.waste_area ≡ r.waste_area) where
+      pub by_fitness : compare_fitness (option_of l.fitness) (option_of r.fitness) ≡ compare_score (score_of l) (score_of r)
+      unfolding compare_score score_of
+      by_fitness =
+          rw (compare_is Order.eq r.used_stock_count l.used_stock_count (omega arith), compare_is Order.eq r.waste_area l.waste_area (omega arith)) refl
+
+      -- as of no sheets
+      pub no_fitness : l.fitness ≡ None → r.fitness ≡ None → Order.eq ≡ compare_score (score_of l) (score_of r)
+      unfolding compare_fitness
+      no_fitness x y = rw (← by_fitness, x, y) refl

@@ -25,6 +25,16 @@ use Rattle.candidate.proofs.Makings.{on_same, on_other}
 use Rattle.candidate.specs.Keys.{elem}
 use Rattle.candidate.specs.Donated.{with_insertions, with_unused_cuts, anew, donated, others_than, place_among}
 
+-- ---- one push more
+
+pub insertions_more : (k : Words) (words : List ℕ) (w : ℕ) → with_insertions k (words ++ (w ∷ [])) ≡ with_insertion (with_insertions k words) w
+unfolding with_insertions with_insertion
+insertions_more k words w = λ j. record { boards = k.boards; sheets = k.sheets; insertions = record { items = sym (append_assoc (placed_words k) words (w ∷ [])) j }; unused = k.unused }
+
+pub unused_more : (k : Words) (cuts : List ℕ) (x : ℕ) → with_unused_cuts k (cuts ++ (x ∷ [])) ≡ with_unused (with_unused_cuts k cuts) x
+unfolding with_unused_cuts with_unused
+unused_more k cuts x = λ j. record { boards = k.boards; sheets = k.sheets; insertions = k.insertions; unused = record { items = sym (append_assoc (unused_numbers k) cuts (x ∷ [])) j } }
+
 -- ---- the loop over the donor's insertions
 
 pub cut_small : (w : ℕ) → cut_of w < 64

@@ -177,6 +177,9 @@ module _ (inst : ProblemInstance) (words : List ℕ) (b : ℕ) (m : Replayable i
     pub cut_known : cut_of word < length inst.cuts
     cut_known = all_get (λ w. cut_of w < length inst.cuts) words i 0 m.cuts h
 
-  -- before all of them
+  -- before and after all of them
   pub first_bin : bin_in inst (take 0 words) b ≡ new_sheet (board_in inst b)
   first_bin = bin_bare inst [] b (on_none b [] tt)
+
+  pub last_bin : bin_in inst (take (length words) words) b ≡ bin_in inst words b
+  last_bin = ap (λ (l : List ℕ). bin_in inst l b) (take-length words)

@@ -33,7 +33,7 @@ use Rattle.project.specs.Problem.{board_in, cut_in, no_cut}
 use Rattle.guide.specs.declared.subtree.Node.{Node}
 use Rattle.plan.specs.declared.sheet_plan.Progress.{Progress}
 use Rattle.plan.specs.Replaying.{new_pieces, Replayed, Replayable, Takeable, Takes, TakeableIn, TakesIn, ReplaysWord, ReplaysSheet, Finishable}
-use Rattle.plan.proofs.sheet_plan.Making.{begins, bin_pieces, begun_pieces, bin_board, bin_bounded, step_on, step_off, kept_pieces, cut_known, first_bin}
+use Rattle.plan.proofs.sheet_plan.Making.{begins, bin_pieces, begun_pieces, bin_board, bin_bounded, step_on, step_off, kept_pieces, cut_known, first_bin, last_bin}
 use Rattle.plan.proofs.sheet_plan.Bodies.{sizes}
 use Rattle.plan.proofs.sheet_plan.Steps.{no_piece, insertable, not_nothing, takeable, written, replayed, pieces_more}
 
@@ -149,6 +149,10 @@ module _ (inst : ProblemInstance) (words : List ℕ) (b : ℕ) (m : Replayable i
         state = turn.state;
         pieces = pieces_more l₀ l l' (bin_in inst (take i words) b) (bin_in inst (take (i + 1) words) b) (omega (arith, begun_pieces inst words b m i)) (kept_pieces inst words b m i h) before.pieces turn.pieces;
       }
+
+  pub replay_end : (i : ℕ) → i ≡ length words → (l : List ℕ) (w : List Rect) (g : List Node) (p : Progress) → ReplaysSheet inst.kerf_width (bin_in inst (take i words) b) l₀ l w g p
+      → ReplaysSheet inst.kerf_width (bin_in inst words b) l₀ l w g p
+  replay_end i e l w g p done = rw (e, last_bin inst words b m) at done
 
 -- what follows the pieces can be written
 pub finishable : (inst : ProblemInstance) → Ranged inst → (words : List ℕ) (b : ℕ) → Replayable inst words b → (part : List ℕ) (w : List Rect) (g : List Node) (p : Progress) (stock : StockInstance)

@@ -7,9 +7,10 @@ use lib.ListN.{length, get_or, take, drop, set, length-append, length-set}
 use lib.Seq.{take_at, drop_at, take-append-add, drop-drop}
 use Rattle.lists.specs.Parts.{part, patch}
 use Rattle.lists.proofs.Parts.{length_patch, then_patch, set_patch, part_patch}
+use Rattle.model.specs.Expand.{ProblemInstance}
 use Rattle.candidate.specs.declared.Candidate.{Candidate as Words}
-use Rattle.candidate.specs.Stands.{placed_words, unused_numbers}
-use Rattle.search.specs.Slots.{slot_words, slot_of, packed, unpacked, stored_in, store_in}
+use Rattle.candidate.specs.Stands.{placed_words, unused_numbers, Stands}
+use Rattle.search.specs.Slots.{slot_words, slot_of, packed, unpacked, stored_in, store_in, Storable}
 
 -- ---- what the stores leave
 
@@ -43,6 +44,11 @@ unpacked_of s b x y z hb =
     ap (take (p + length y - p)) (sym (drop-drop p 66 block) ∙ ap (drop p) behind ∙ drop_at x (y ++ z) p refl) ∙ take_at y z (p + length y - p) left
     in
     λ i. record { boards = take_at b (x ++ (y ++ z)) 64 hb i; sheets = s; insertions = record { items = placed i }; unused = record { items = last i } }
+
+-- ---- the counts of a candidate that stands
+
+pub storable : (inst : ProblemInstance) (c : Words) → Stands inst [] c → length inst.stock ≤ 64 → length inst.cuts ≤ 64 → Storable c
+storable inst c h s k = record { sheets = omega (arith, h.sheets); cuts = omega (arith, h.counts) }
 
 -- ---- a candidate with its 64 boards
 

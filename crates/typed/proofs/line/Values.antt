@@ -50,6 +50,16 @@ module _ (most n c : ℕ) where
       go true e = cc
       go false e = refl
 
+  pub digit_most : (m : ℕ) → read_digits most n (c ∷ []) ≡ Some m → m ≤ most
+  unfolding read_digits
+  digit_most m e = go (digit most n c) refl e
+    where
+      go : (t : Bool) → digit most n c ≡ t → (if t then Some (10 * n + (c - 48)) else None) ≡ Some m → m ≤ most
+      go true d e =
+          let f : 10 * n + (c - 48) ≡ m = cc in
+          omega (arith, f, leb-true (10 * n + (c - 48)) most (both (leb 48 c && leb c 57) (leb (10 * n + (c - 48)) most) d).1)
+      go false d e = cc
+
 module _ (most : ℕ) (w : List ℕ) where
   pub number_none : length w ≤ 0 → decimal_value most w ≡ None
   unfolding decimal_value
@@ -73,6 +83,10 @@ module _ (most : ℕ) (w : List ℕ) where
 
     pub digits_stop : read_digits most n (get_or w i 0 ∷ []) ≡ None → read_digits most n (drop i w) ≡ None
     digits_stop e = rw (drop-cons w i 0 h) (digit_stop most n (get_or w i 0) (drop (suc i) w) e)
+
+  pub digits_end : (n i : ℕ) → length w ≤ i → read_digits most n (drop i w) ≡ Some n
+  unfolding read_digits
+  digits_end n i h = rw (drop_of_length-le w h)
 
 -- ---- tables
 
