@@ -14,5 +14,6 @@ pub mod Maps
 pub mod Counts
 pub mod Arrays
 pub mod Parts
+pub mod Padded
 pub mod Tests
 pub mod Language

@@ -1,4 +1,5 @@
 -- Laws of parts and patches: what a patch leaves as it was, and the turns of the loops that copy.
+use Rattle.std.specs.Prelude.{insert}
 use Prim.Native.Nat.{◌+◌, ◌-◌, ◌<◌, ◌≤◌, suc, zero, ℕ}
 use native.Mathlib.Nat.{add-zero, suc-add, zero-add}
 use native.Mathlib.Numerals.{add-one}
@@ -197,3 +198,26 @@ module _ {A : Type 0} where
       ∙ get_or-append (take b l) (take i (part l a n)) d (a + i) (omega (arith, length-take-le b l (omega arith)))
       ∙ get_or-take b l (a + i) d (omega arith)
       ∙ sym (get_d_part l a n i d lt)
+
+-- ---- an element put in among the first ones
+
+-- those from a place on moved up by one, and the element put there
+pub inserted_among : {A : Type 0} (l : List A) (used p : ℕ) (x : A) → p ≤ used → used < length l
+    → set (paste l (p + 1) (drop p l) (used - p)) p x ≡ insert (take used l) p x ++ drop (used + 1) l
+inserted_among {A} l used p x h fits =
+    let back : List A = part l p (used - p) in
+    let size : length back ≡ used - p = length_part l p (used - p) (omega arith) in
+    let moved : List A = patch l (p + 1) back in
+    let behind : back ≡ drop p (take used l) =
+    let e : p + (used - p) ≡ used = omega arith in
+    sym (drop_take_add p (used - p) l) ∙ ap (λ (n : ℕ). drop p (take n l)) e
+    in
+    let front : take p l ≡ take p (take used l) = sym (take-take p used l h) in
+    let far : p + length (x ∷ back) ≡ used + 1 = omega arith in
+    ap (λ (d : List A). set d p x) (paste_patch l (p + 1) (drop p l) (used - p) (omega (arith, length-drop p l)))
+    ∙ set_patch moved p x (omega (arith, length_patch l (p + 1) back (omega arith)))
+    ∙ patch_front l (p + 1) p (x ∷ []) back (omega arith) (omega arith)
+    ∙ ap (λ (n : ℕ). take p l ++ (x ∷ (back ++ drop n l))) far
+    ∙ ap (λ (r : List A). take p l ++ (x ∷ (r ++ drop (used + 1) l))) behind
+    ∙ ap (λ (r : List A). r ++ (x ∷ (drop p (take used l) ++ drop (used + 1) l))) front
+    ∙ sym (append_assoc (take p (take used l)) (x ∷ drop p (take used l)) (drop (used + 1) l))
