@@ -13,22 +13,22 @@ pub mod placing; // Cuts placed on the sheets of a candidate
 pub mod evaluation; // What a candidate is worth
 pub mod variation; // What the search makes of candidates
 
-use arrayvec::ArrayVec;
 use model::{
     BaselineGuillotineHeuristic, GuillotineRectChoice, GuillotineSplitHeuristic, RotationPreference,
 };
 use words::copying;
+use words::word_list::WordList;
 
 // `boards` is the numbers 0 to 63 in some order: the problem's boards come first, and the first `sheets` of these have a sheet. Whether it stands for a
 // candidate of a problem (`Stands`) depends on the problem too, so functions that need it have it as a clause.
-#[derive(Drop)]
+#[derive(Clone, Copy)]
 pub struct Candidate {
     // the boards: those of the sheets, in sheet order, then the available ones
     pub boards: [u32; 64],
     pub sheets: usize,
     // the cuts placed, each with its board and heuristic, in the order they were placed
-    pub insertions: ArrayVec<u32, 64>,
-    pub unused: ArrayVec<u32, 64>,
+    pub insertions: WordList,
+    pub unused: WordList,
 }
 
 // ---- insertions as words
@@ -126,8 +126,8 @@ impl Candidate {
         Candidate {
             boards: std::array::from_fn(|i| i as u32),
             sheets: 0,
-            insertions: ArrayVec::new(),
-            unused: ArrayVec::new(),
+            insertions: WordList::new(),
+            unused: WordList::new(),
         }
     }
 

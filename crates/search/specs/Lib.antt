@@ -8,4 +8,5 @@ pub mod Populations
 pub mod Numbers
 pub mod Seeds
 -- survival
+pub mod NoRank
 pub mod Ranks

@@ -7,6 +7,7 @@ ghost use Rattle.search.specs.Slots.{slot_words, slot_of, unpacked, stored_in, s
 
 use candidate::Candidate;
 use words::copying;
+use words::word_list::WordList;
 
 // The words of a slot.
 pub const STORED: usize = 130;
@@ -43,8 +44,8 @@ fn load(block: &[u32], cuts: usize) -> Candidate
     Candidate {
         boards,
         sheets: block[0] as usize,
-        insertions: copying::listed(&block[66..66 + placed]),
-        unused: copying::listed(&block[66 + placed..66 + cuts]),
+        insertions: WordList::of(&block[66..66 + placed]),
+        unused: WordList::of(&block[66 + placed..66 + cuts]),
     }
 }
 

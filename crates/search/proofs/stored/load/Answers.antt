@@ -15,6 +15,6 @@ returns c =
     let block : List ℕ = c.args.block.now in
     let placed : ℕ = get_or block 1 0 in
     let left : 66 + c.args.cuts - (66 + placed) ≡ c.args.cuts - placed = omega arith in
-    let first : c.listed.result.items ≡ part block 66 placed = c.listed.ensures ∙ part_span block 66 placed in
-    let last : c.listed-2.result.items ≡ part block (66 + placed) (c.args.cuts - placed) = c.listed-2.ensures ∙ ap (λ (n : ℕ). take n (drop (66 + placed) block)) left in
+    let first : c.of.result.items ≡ part block 66 placed = c.of.ensures ∙ part_span block 66 placed in
+    let last : c.of-2.result.items ≡ part block (66 + placed) (c.args.cuts - placed) = c.of-2.ensures ∙ ap (λ (n : ℕ). take n (drop (66 + placed) block)) left in
     λ i. record { boards = c.copy_from_slice.ensures.after i; sheets = get_or block 0 0; insertions = record { items = first i }; unused = record { items = last i } }
