@@ -1,5 +1,5 @@
 -- What a well-formed file's lengths are, what its project's parts are by number, and its settings' codes.
-use Prim.Native.Nat.{ℕ, ◌+◌, ◌*◌, ◌%◌, ◌≤◌, ◌<◌}
+use Prim.Native.Nat.{ℕ, ◌+◌, ◌*◌, ◌/◌, ◌%◌, ◌≤◌, ◌<◌}
 use native.Mathlib.Omega.{arith}
 use mathlib.Core.Path.{◌≡◌, refl, sym}
 use mathlib.Core.Bool.{Bool, true, false, ◌&&◌}
@@ -10,7 +10,7 @@ use lib.ListN.{length}
 use borrow.Author.Tests.{eqb-true, leb-true, ne_eqb}
 use Rattle.lists.specs.Parts.{part}
 use Rattle.lists.proofs.Booleans.{both}
-use Rattle.model.specs.Project.{record_length, most_records, settings_entry, stock_entry, cuts_entry, settings_start, settings_length, stock_start, start_of, length_of, stock_length, cuts_start, cuts_length, body_length, project_of, well_formed}
+use Rattle.model.specs.Project.{record_length, most_records, settings_entry, stock_entry, cuts_entry, settings_start, settings_length, stock_start, start_of, length_of, stock_length, cuts_start, cuts_length, body_length, read_records, project_of, well_formed}
 use Rattle.model.specs.Refusal.{first_that_applies, file_checks, file_refusal}
 use Rattle.project.specs.Records.{records}
 use Rattle.project.proofs.Records.{records_in}
@@ -18,10 +18,15 @@ use Rattle.project.proofs.Records.{records_in}
 -- ---- lengths
 
 pub record Shape (bytes : List ℕ) : Type 0 where
+  pub stock_whole : record_length * (stock_length bytes / record_length) ≡ stock_length bytes
   pub stock_few : stock_length bytes ≤ record_length * most_records
   pub cuts_follow : start_of bytes cuts_entry ≡ cuts_start bytes
+  pub cuts_whole : record_length * (cuts_length bytes / record_length) ≡ cuts_length bytes
   pub cuts_few : cuts_length bytes ≤ record_length * most_records
   pub ends : length bytes ≡ cuts_start bytes + cuts_length bytes
+
+whole : (n : ℕ) → body_length n ≡ true → record_length * (n / record_length) ≡ n
+whole n e = let h = eqb-true (n % record_length) 0 (both (eqb (n % record_length) 0) (leb n (record_length * most_records)) e).0 in omega arith
 
 few : (n : ℕ) → body_length n ≡ true → n ≤ record_length * most_records
 few n e = leb-true n (record_length * most_records) (both (eqb (n % record_length) 0) (leb n (record_length * most_records)) e).1
@@ -38,8 +43,10 @@ shape bytes e =
     let h₃ = both stock (eqb (start_of bytes cuts_entry) (cuts_start bytes)) h₂.0 in
     let h₄ = both entries (body_length (stock_length bytes)) h₃.0 in
     record {
+      stock_whole = whole (stock_length bytes) h₄.1;
       stock_few = few (stock_length bytes) h₄.1;
       cuts_follow = eqb-true (start_of bytes cuts_entry) (cuts_start bytes) h₃.1;
+      cuts_whole = whole (cuts_length bytes) h₂.1;
       cuts_few = few (cuts_length bytes) h₂.1;
       ends = eqb-true (length bytes) (cuts_start bytes + cuts_length bytes) h₁.1;
     }
@@ -68,6 +75,16 @@ module _ (bytes : List ℕ) where
 
   -- ---- the project's parts
 
+  -- as the definition reads them, of every file
+  pub stock_read : read_records bytes stock_start (stock_length bytes) ≡ (project_of bytes).stock
+  unfolding project_of
+  stock_read = refl
+
+  pub cuts_read : read_records bytes (cuts_start bytes) (cuts_length bytes) ≡ (project_of bytes).cuts
+  unfolding project_of
+  cuts_read = refl
+
+  -- as records of a body, of a well-formed file
   module _ (e : well_formed bytes ≡ true) where
     pub stock_is : records (part bytes stock_start (stock_length bytes)) ≡ (project_of bytes).stock
     unfolding project_of

@@ -1,31 +1,38 @@
 -- The checks after all records, and the whole table.
-use Prim.Native.Nat.{ℕ, zero, suc, ◌/◌}
+use Prim.Native.Nat.{ℕ, zero, suc, ◌+◌, ◌*◌, ◌/◌}
 use native.Mathlib.Omega.{arith}
 use mathlib.Core.Path.{◌≡◌, refl, sym, ap, ◌∙◌}
 use mathlib.Core.Bool.{Bool, true, false, ◌&&◌}
-use mathlib.Core.List.{List, [], ◌∷◌, ◌++◌}
+use mathlib.Core.List.{List, [], ◌∷◌, ◌++◌, map}
 use mathlib.Core.Option.{Option, none, some}
 use lib.Dec.{eqb}
 use lib.ListN.{length}
 use borrow.Author.Tests.{eq-eqb, ne_eqb}
 use Rattle.lists.proofs.Booleans.{and_true}
 use Rattle.lists.specs.Base.{◌<|>◌, count_from, is_empty}
-use Rattle.model.specs.Project.{Record, Project, record_length, project_of, well_formed}
+use Rattle.model.specs.Project.{Record, Project, record_length, cuts_start, cuts_length, read_record, read_records, project_of, well_formed}
 use Rattle.model.specs.Refusal.{Check, first_that_applies, stock_rule, cut_rule, settings_checks, record_checks, total_quantity, whole_checks, project_checks, file_checks, file_refusal}
-use Rattle.project.specs.Records.{records_from, records}
-use Rattle.project.proofs.Shape.{file_refused}
+use Rattle.project.specs.Records.{record_at, records}
+use Rattle.project.proofs.Shape.{cuts_read, file_refused}
 use Rattle.project.proofs.refusals.Checks.{rows_append}
 
 -- ---- the checks after all records
 
+-- no numbers, no records
+none_counted : (f : ℕ → Record) (n : ℕ) → is_empty (map f (count_from 0 n)) ≡ eqb n 0
+unfolding count_from
+none_counted f zero = refl
+none_counted f (suc n) = sym (ne_eqb (suc n) 0 (λ e. omega arith))
+
 -- no records are no cuts
 pub cuts_empty : (body : List ℕ) (n : ℕ) (ps : List Record) → records body ≡ ps → n ≡ length body / record_length → is_empty ps ≡ eqb n 0
-unfolding count_from
-cuts_empty body n ps e f = ap is_empty (sym e) ∙ empty_is (length body / record_length) ∙ ap (λ (m : ℕ). eqb m 0) (sym f)
-  where
-    empty_is : (n : ℕ) → is_empty (records_from body 0 n) ≡ eqb n 0
-    empty_is zero = refl
-    empty_is (suc n) = sym (ne_eqb (suc n) 0 (λ e. omega arith))
+cuts_empty body n ps e f = ap is_empty (sym e) ∙ none_counted (record_at body) (length body / record_length) ∙ ap (λ (m : ℕ). eqb m 0) (sym f)
+
+-- of every file
+pub file_cuts_empty : (bytes : List ℕ) (n : ℕ) → n ≡ cuts_length bytes / record_length → is_empty (project_of bytes).cuts ≡ eqb n 0
+unfolding read_records
+file_cuts_empty bytes n e =
+    ap is_empty (sym (cuts_read bytes)) ∙ none_counted (λ k. read_record bytes (cuts_start bytes + record_length * k)) (cuts_length bytes / record_length) ∙ ap (λ (m : ℕ). eqb m 0) (sym e)
 
 module _ (p : Project) (n : ℕ) (empty : is_empty p.cuts ≡ eqb n 0) where
   pub whole_empty : n ≡ 0 → none ≡ first_that_applies (whole_checks p)

@@ -1,7 +1,8 @@
 -- A number of several bytes, from its bytes.
-use Prim.Native.Nat.{ℕ, ◌+◌, ◌≤◌, ◌<◌}
+use Prim.Native.Nat.{ℕ, suc, ◌+◌, ◌*◌, ◌^◌, ◌≤◌, ◌<◌}
+use native.Mathlib.Numerals.{add-one}
 use native.Mathlib.Omega.{arith}
-use mathlib.Core.Path.{◌≡◌}
+use mathlib.Core.Path.{◌≡◌, refl, ap, ◌∙◌}
 use mathlib.Core.List.{List, [], ◌∷◌}
 use lib.ListN.{length, get_or, take, drop, length-take, length-drop}
 use lib.Seq.{drop-cons}
@@ -57,3 +58,33 @@ module _ (l : List ℕ) (at : ℕ) where
   pub number_8 : at + 8 ≤ length l → from_le_bytes w64 (take 8 (drop at l)) ≡ number l at 8
   unfolding number
   number_8 h = eight (take 8 (drop at l)) (part_length 8 h)
+
+-- ---- a number's bytes, without std's sum
+
+number_none : (l : List ℕ) (at : ℕ) → number l at 0 ≡ 0
+unfolding number little_endian
+number_none l at = refl
+
+-- the lowest byte, and the rest
+number_next : (l : List ℕ) (at n : ℕ) → at < length l → number l at (suc n) ≡ get_or l at 0 + 256 * number l (at + 1) n
+unfolding number little_endian
+number_next l at n h = rw (drop-cons l at 0, add-one)
+
+module _ (l : List ℕ) (at : ℕ) where
+  -- byte k of a number, and the rest
+  byte : (k n : ℕ) → at + k < length l → number l (at + k) (suc n) ≡ get_or l (at + k) 0 + 256 * number l (at + suc k) n
+  byte k n h =
+      let e : at + k + 1 ≡ at + suc k = omega arith in
+      number_next l (at + k) n h ∙ ap (λ (m : ℕ). get_or l (at + k) 0 + 256 * number l m n) e
+
+  pub bytes_of_2 : at + 2 ≤ length l → get_or l at 0 + 256 * get_or l (at + 1) 0 ≡ number l at 2
+  bytes_of_2 h = omega (arith, number_next l at 1 (omega arith), byte 1 0 (omega arith), number_none l (at + 2))
+
+  pub bytes_of_4 : at + 4 ≤ length l → get_or l at 0 + 256 * (get_or l (at + 1) 0 + 256 * (get_or l (at + 2) 0 + 256 * get_or l (at + 3) 0)) ≡ number l at 4
+  bytes_of_4 h =
+      omega (arith, number_next l at 3 (omega arith), byte 1 2 (omega arith), byte 2 1 (omega arith), byte 3 0 (omega arith), number_none l (at + 4))
+
+  -- the lower and the upper half
+  pub halves_of_8 : at + 8 ≤ length l → number l at 4 + 2 ^ 32 * number l (at + 4) 4 ≡ number l at 8
+  halves_of_8 h =
+      omega (arith, bytes_of_4 (omega arith), number_next l at 7 (omega arith), byte 1 6 (omega arith), byte 2 5 (omega arith), byte 3 4 (omega arith))
