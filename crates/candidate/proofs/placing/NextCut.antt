@@ -40,7 +40,7 @@ shown_fillable inst r words free b known few rebuilt shows =
           rebuilt_few inst.kerf_width (board_in inst b) (making_in inst words b) (bin_in inst words b) rebuilt,
           making_length inst words b,
         );
-        ready = rw shows (rebuilt_ready inst.kerf_width (board_in inst b) (making_in inst words b) (bin_in inst words b) rebuilt r.kerf (board_ranged inst r b known));
+        ready = rw shows (rebuilt_ready inst.kerf_width (board_in inst b) (making_in inst words b) (bin_in inst words b) rebuilt r.kerf (board_ranged inst r.boards b known));
       };
     }
 

@@ -7,6 +7,7 @@ use mathlib.Core.List.{List}
 use mathlib.Core.Option.{some}
 use lib.Dec.{eqb}
 use lib.ListN.{length}
+use Rattle.lists.specs.Elements.{All}
 use Rattle.lists.proofs.Sums.{length-map}
 use Rattle.lists.proofs.Kept.{length_retain}
 use Rattle.lists.proofs.Options.{fold_keeps}
@@ -16,7 +17,7 @@ use Rattle.model.specs.Refusal.{most_side}
 use Rattle.model.specs.Sheet.{GuillotineSheet, Insertion, new_sheet, try_insert, rebuild, making_of}
 use Rattle.model.specs.Expand.{ProblemInstance}
 use Rattle.trust.specs.Proper.{FreeCount}
-use Rattle.trust.specs.Admitted.{BoardRange, Ranged}
+use Rattle.trust.specs.Admitted.{BoardRange}
 use Rattle.trust.proofs.Sheet.{Inserted, all_inserted}
 use Rattle.trust.proofs.Sizes.{insert_free}
 use Rattle.trust.proofs.Placing.{at_place, at_best}
@@ -52,9 +53,9 @@ module _ (kerf : ℕ) (stock : StockInstance) (is : List Insertion) (t : Guillot
 
 -- ---- a board and a making in words
 
-pub board_ranged : (inst : ProblemInstance) → Ranged inst → (b : ℕ) → b < length inst.stock → BoardRange (board_in inst b)
+pub board_ranged : (inst : ProblemInstance) → All BoardRange inst.stock → (b : ℕ) → b < length inst.stock → BoardRange (board_in inst b)
 unfolding board_in
-board_ranged inst r b known = all_get BoardRange inst.stock b _ r.boards known
+board_ranged inst r b known = all_get BoardRange inst.stock b _ r known
 
 pub making_length : (inst : ProblemInstance) (words : List ℕ) (b : ℕ) → length (making_in inst words b) ≤ length words
 unfolding making_in on_board

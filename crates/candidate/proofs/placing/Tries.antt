@@ -19,9 +19,10 @@ use Rattle.lists.proofs.Arrays.{take_next}
 use Rattle.lists.proofs.Options.{none_by}
 use Rattle.model.specs.declared.StockInstance.{StockInstance}
 use Rattle.model.specs.declared.Rect.{Rect}
+use Rattle.model.specs.Refusal.{most_side}
 use Rattle.model.specs.Sheet.{GuillotineSheet, Insertion, new_sheet, try_insert}
 use Rattle.model.specs.Expand.{ProblemInstance}
-use Rattle.trust.specs.Admitted.{Ranged}
+use Rattle.trust.specs.Admitted.{BoardRange}
 use Rattle.project.specs.Problem.{board_in}
 use Rattle.sheet.specs.declared.free_rects.TheConstants.{MOST_RECTS}
 use Rattle.sheet.specs.Places.{Shows}
@@ -88,7 +89,15 @@ module _ (inst : ProblemInstance) (i : Insertion) (boards : List ℕ) (sheets : 
 
     -- ---- one board
 
-    module _ (ranged : Ranged inst) (free : List (List Rect)) (j : ℕ) (t : Tried free j) (here : j < length inst.stock) where
+    module _ (j : ℕ) (here : j < length inst.stock) where
+      at_index : get_or known j 0 ≡ get_or boards j 0
+      at_index = get_or-take (length inst.stock) boards j 0 here
+
+      pub board_known : get_or boards j 0 < length inst.stock
+      board_known = subst (λ (b : ℕ). b < length inst.stock) at_index (all_get (λ b. b < length inst.stock) known j 0 ok.known (omega (arith, here, length_known)))
+
+    module _ (thin : inst.kerf_width ≤ most_side) (ranged : All BoardRange inst.stock) (few : length inst.stock ≤ 64)
+        (free : List (List Rect)) (j : ℕ) (t : Tried free j) (here : j < length inst.stock) where
       abbrev board : ℕ
       board = get_or boards j 0
 
@@ -98,14 +107,8 @@ module _ (inst : ProblemInstance) (i : Insertion) (boards : List ℕ) (sheets : 
       abbrev opened : List (List Rect)
       opened = opened_if (leb sheets j) free board stock
 
-      at_index : get_or known j 0 ≡ board
-      at_index = get_or-take (length inst.stock) boards j 0 here
-
-      pub board_known : board < length inst.stock
-      board_known = subst (λ (b : ℕ). b < length inst.stock) at_index (all_get (λ b. b < length inst.stock) known j 0 ok.known (omega (arith, here, length_known)))
-
       pub board_small : board < 64
-      board_small = omega (arith, board_known, ranged.few_boards)
+      board_small = omega (arith, board_known j here, few)
 
       inside : board < length free
       inside = omega (arith, board_small, t.room)
@@ -136,7 +139,7 @@ module _ (inst : ProblemInstance) (i : Insertion) (boards : List ℕ) (sheets : 
         bare_index : get_or (drop sheets known) (j - sheets) 0 ≡ board
         bare_index =
             let e : sheets + (j - sheets) ≡ j = omega (arith, bare) in
-            get_or-drop sheets known (j - sheets) 0 ∙ ap (λ (n : ℕ). get_or known n 0) e ∙ at_index
+            get_or-drop sheets known (j - sheets) 0 ∙ ap (λ (n : ℕ). get_or known n 0) e ∙ at_index j here
 
         bare_inside : j - sheets < length (drop sheets known)
         bare_inside = omega (arith, bare, here, length-drop sheets known, length_known)
@@ -161,8 +164,8 @@ module _ (inst : ProblemInstance) (i : Insertion) (boards : List ℕ) (sheets : 
 
         bare_fillable : Fillable inst.kerf_width (with_bin free board (new_sheet stock)) board
         bare_fillable =
-            let r = board_ranged inst ranged board board_known in
-            record { known = board_small; rects = rw bare_rects (record { few = new_few stock; ready = new_ready inst.kerf_width stock ranged.kerf r.width r.length }) }
+            let r = board_ranged inst ranged board (board_known j here) in
+            record { known = board_small; rects = rw bare_rects (record { few = new_few stock; ready = new_ready inst.kerf_width stock thin r.width r.length }) }
 
         bare_shows : (bin : ℕ → GuillotineSheet) → Bins inst boards sheets before bin → Shows (rects_on (with_bin free board (new_sheet stock)) board) stock.pattern (bin board)
         unfolding new_sheet
@@ -206,7 +209,7 @@ module _ (inst : ProblemInstance) (i : Insertion) (boards : List ℕ) (sheets : 
         into_this = tries this (record { rects = refl; grain = refl })
 
         bin_at : (bin : ℕ → GuillotineSheet) → get_or (map bin known) j (bin 0) ≡ bin board
-        bin_at bin = get_or-map bin known j 0 ∙ ap bin at_index
+        bin_at bin = get_or-map bin known j 0 ∙ ap bin (at_index j here)
 
         -- no: the rectangles are as they were opened
         stays : r ≡ false → after ≡ opened
@@ -264,10 +267,11 @@ module _ (inst : ProblemInstance) (i : Insertion) (boards : List ℕ) (sheets : 
       pub found : (bare : List (List Rect)) → bare ≡ opened_if (leb sheets j) free (get_or boards j 0) s → (after : List (List Rect)) (r : Bool)
           → InsertsOnBoard inst.kerf_width s.pattern i (get_or boards j 0) bare after r → r ≡ true → TriesBoards inst i boards sheets before after j
 
-    pub turn : Ranged inst → (free : List (List Rect)) (j : ℕ) → Tried free j → j < length inst.stock → (s : StockInstance) → s ≡ board_in inst (get_or boards j 0) → Turn free j s
-    turn ranged free j t here s e =
+    pub turn : inst.kerf_width ≤ most_side → All BoardRange inst.stock → length inst.stock ≤ 64
+        → (free : List (List Rect)) (j : ℕ) → Tried free j → j < length inst.stock → (s : StockInstance) → s ≡ board_in inst (get_or boards j 0) → Turn free j s
+    turn thin ranged few free j t here s e =
         rw e (record {
-          fillable = λ bare o. rw o (opened_ok ranged free j t here).fillable;
-          next = λ bare o after r f. tried_next ranged free j t here after r (rw o at f);
-          found = λ bare o after r f. tried_found ranged free j t here after r (rw o at f);
+          fillable = λ bare o. rw o (opened_ok thin ranged few free j t here).fillable;
+          next = λ bare o after r f. tried_next thin ranged few free j t here after r (rw o at f);
+          found = λ bare o after r f. tried_found thin ranged few free j t here after r (rw o at f);
         })

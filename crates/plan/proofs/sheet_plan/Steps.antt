@@ -114,15 +114,15 @@ module _ (kerf : ℕ) (s t : GuillotineSheet) (i : Insertion) (w : List Rect) (g
           area = omega (arith, state.placed, placed_most kerf t next.layout, board_area_most t.stock next.board);
         }
 
-    module _ (panel : PanelRange i.cut) (l l' : List ℕ) (g' : List Node) (q : Progress) (takes : Takes kerf i.cut i.heuristic r f m p l l' g g' q) where
+    module _ (l l' : List ℕ) (g' : List Node) (q : Progress) (takes : Takes kerf i.cut i.heuristic r f m p l l' g g' q) where
       pub written : l' ≡ patch l (9 * length s.placed_pieces) (new_pieces s t)
       written =
           takes.words
           ∙ ap (λ (n : ℕ). patch l (9 * n) (piece_words (placed kerf s i (place_at k r f)))) state.pieces
           ∙ ap (patch l (9 * length s.placed_pieces)) (sym (append-nil (piece_words (placed kerf s i (place_at k r f)))) ∙ sym (new_piece kerf s i (place_at k r f)) ∙ ap (new_pieces s) (sym is_next))
 
-      grown : Replayed kerf (insert_at kerf s i (place_at k r f)) w' g' q
-      grown =
+      grown : PanelRange i.cut → Replayed kerf (insert_at kerf s i (place_at k r f)) w' g' q
+      grown panel =
           record {
             free = own_grain kerf s i (place_at k r f) w' done.shows;
             ready = done.ready;
@@ -131,8 +131,8 @@ module _ (kerf : ℕ) (s t : GuillotineSheet) (i : Insertion) (w : List Rect) (g
             placed = omega (arith, takes.placed, state.placed, more_area kerf s i (place_at k r f));
           }
 
-      pub replayed : Replayed kerf t w' g' q
-      replayed = rw is_next grown
+      pub replayed : PanelRange i.cut → Replayed kerf t w' g' q
+      replayed panel = rw is_next (grown panel)
 
 -- ---- the pieces' words
 

@@ -117,8 +117,8 @@ module _ (inst : ProblemInstance) (words : List ℕ) (b : ℕ) (m : Replayable i
           unfolding insertion
           taken l' g' q takes =
               record {
-                state = replayed inst.kerf_width s t insertion w g p state bounded step w' k fr f merged (into (Some (record { index = k; free_rect = fr; fit = f; merged = merged })) e) panel l l' g' q takes;
-                pieces = written inst.kerf_width s t insertion w g p state bounded step w' k fr f merged (into (Some (record { index = k; free_rect = fr; fit = f; merged = merged })) e) panel l l' g' q takes;
+                state = replayed inst.kerf_width s t insertion w g p state bounded step w' k fr f merged (into (Some (record { index = k; free_rect = fr; fit = f; merged = merged })) e) l l' g' q takes panel;
+                pieces = written inst.kerf_width s t insertion w g p state bounded step w' k fr f merged (into (Some (record { index = k; free_rect = fr; fit = f; merged = merged })) e) l l' g' q takes;
               }
 
         -- the piece of an insertion that finds its place

@@ -10,7 +10,7 @@ use Rattle.candidate.proofs.placing.first_fit.Goals.{then-sheets-j, else-sheets-
 pub insert_on_board-requires : goal.insert_on_board-requires
 insert_on_board-requires c =
     let t = turn c.args.inst.now (record { cut = c.args.cut; heuristic = c.args.h }) c.args.boards.now c.args.sheets c.args.free.now c.requires.0 c.requires.1
-    c.stock-count.ensures.sound.ranged c.loop-j.free c.loop-j.j c.loop-j.invariant (rw c.stock-count.ensures.value at c.loop-j-test.true) c.board-s.result c.board-s.ensures.value in
+    c.stock-count.ensures.sound.ranged.kerf c.stock-count.ensures.sound.ranged.boards c.stock-count.ensures.sound.ranged.few_boards c.loop-j.free c.loop-j.j c.loop-j.invariant (rw c.stock-count.ensures.value at c.loop-j-test.true) c.board-s.result c.board-s.ensures.value in
     let opened : c.if-sheets-j.free ≡ opened_if (leb c.args.sheets c.loop-j.j) c.loop-j.free (get_or c.args.boards.now c.loop-j.j 0) c.board-s.result =
     elim c.if-sheets-j.branch [
       | then-sheets-j w ↦ opened_bare _ _ _ _ _ _ w.if-sheets-j.true (w.free-is ∙ w.open_board.ensures)
@@ -22,7 +22,7 @@ insert_on_board-requires c =
 pub returns-then-insert_on_board : goal.returns-then-insert_on_board
 returns-then-insert_on_board c =
     let t = turn c.args.inst.now (record { cut = c.args.cut; heuristic = c.args.h }) c.args.boards.now c.args.sheets c.args.free.now c.requires.0 c.requires.1
-    c.stock-count.ensures.sound.ranged c.loop-j.free c.loop-j.j c.loop-j.invariant (rw c.stock-count.ensures.value at c.loop-j-test.true) c.board-s.result c.board-s.ensures.value in
+    c.stock-count.ensures.sound.ranged.kerf c.stock-count.ensures.sound.ranged.boards c.stock-count.ensures.sound.ranged.few_boards c.loop-j.free c.loop-j.j c.loop-j.invariant (rw c.stock-count.ensures.value at c.loop-j-test.true) c.board-s.result c.board-s.ensures.value in
     let opened : c.if-sheets-j.free ≡ opened_if (leb c.args.sheets c.loop-j.j) c.loop-j.free (get_or c.args.boards.now c.loop-j.j 0) c.board-s.result =
     elim c.if-sheets-j.branch [
       | then-sheets-j w ↦ opened_bare _ _ _ _ _ _ w.if-sheets-j.true (w.free-is ∙ w.open_board.ensures)
@@ -34,7 +34,7 @@ returns-then-insert_on_board c =
 pub loop-j-preserved : goal.loop-j-preserved
 loop-j-preserved c =
     let t = turn c.args.inst.now (record { cut = c.args.cut; heuristic = c.args.h }) c.args.boards.now c.args.sheets c.args.free.now c.requires.0 c.requires.1
-    c.stock-count.ensures.sound.ranged c.loop-j.free c.loop-j.j c.loop-j.invariant (rw c.stock-count.ensures.value at c.loop-j-test.true) c.board-s.result c.board-s.ensures.value in
+    c.stock-count.ensures.sound.ranged.kerf c.stock-count.ensures.sound.ranged.boards c.stock-count.ensures.sound.ranged.few_boards c.loop-j.free c.loop-j.j c.loop-j.invariant (rw c.stock-count.ensures.value at c.loop-j-test.true) c.board-s.result c.board-s.ensures.value in
     let opened : c.if-sheets-j.free ≡ opened_if (leb c.args.sheets c.loop-j.j) c.loop-j.free (get_or c.args.boards.now c.loop-j.j 0) c.board-s.result =
     elim c.if-sheets-j.branch [
       | then-sheets-j w ↦ opened_bare _ _ _ _ _ _ w.if-sheets-j.true (w.free-is ∙ w.open_board.ensures)
