@@ -36,6 +36,8 @@ use Rattle.words.specs.Appending.{with_bytes}
 use Rattle.words.specs.Ascii.{ascii}
 use Rattle.words.specs.Numerals.{decimal_of}
 use Rattle.text.specs.PlanText.{plan_text}
+use Rattle.project.specs.declared.Refusal.{Refusal}
+use Rattle.project.specs.Refusals.{refusal_number}
 use Rattle.text.specs.Text.{refusal_text, answer_text, planned, printed, most_text}
 use Rattle.text.proofs.Longest.{two_digits_most, plan_most}
 
@@ -76,17 +78,20 @@ module _ (file : List ℕ) (b : All Byte file) where
 
 -- ---- of any answer
 
-refusal_most : (n : ℕ) → Numbered (refused n) → length (refusal_text n) ≤ most_text
+refusal_short : (n : ℕ) → n < 100 → length (refusal_text n) ≤ 11
 unfolding refusal_text
-refusal_most n h =
+refusal_short n h =
     let keyword : length (ascii "refused ") ≡ 8 = refl in
     omega (
       arith,
       keyword,
       length-append (ascii "refused ") (decimal_of n ++ (10 ∷ [])),
       length-append (decimal_of n) (10 ∷ []),
-      two_digits_most n (omega (arith, ltb→lt n 18 (and_split (ltb 0 n) (ltb n 18) h).1)),
+      two_digits_most n h,
     )
+
+refusal_most : (n : ℕ) → Numbered (refused n) → length (refusal_text n) ≤ most_text
+refusal_most n h = omega (arith, refusal_short n (omega (arith, ltb→lt n 18 (and_split (ltb 0 n) (ltb n 18) h).1)))
 
 pub longest : (file : List ℕ) → All Byte file → length (printed file) ≤ most_text
 unfolding printed answer_text
@@ -104,3 +109,27 @@ longest file b = go (planned file).answer refl (outcome_numbered file (replicate
 pub whole : (file held : List ℕ) (room : ℕ) → ((i : ℕ) → get_or file i 0 < 256) → most_text ≤ room → held ≡ [] → with_bytes room held (printed file) ≡ printed file
 unfolding with_bytes
 whole file held room b h e = rw e (take_all (room - 0) (printed file) (omega (arith, longest file (all_bytes file b))))
+
+refusal_small : (r : Refusal) → refusal_number r < 100
+refusal_small Refusal.TooSmallMemory = omega arith
+refusal_small Refusal.NotWellFormed = omega arith
+refusal_small Refusal.BadSettings = omega arith
+refusal_small Refusal.LargeKerf = omega arith
+refusal_small Refusal.BadCodes = omega arith
+refusal_small Refusal.ZeroSide = omega arith
+refusal_small Refusal.LargeSide = omega arith
+refusal_small Refusal.UnlimitedStock = omega arith
+refusal_small Refusal.RepeatedId = omega arith
+refusal_small Refusal.TooManyStockInstances = omega arith
+refusal_small Refusal.ZeroQuantity = omega arith
+refusal_small Refusal.TooManyCutInstances = omega arith
+refusal_small Refusal.NoStock = omega arith
+refusal_small Refusal.NestedLayout = omega arith
+refusal_small Refusal.CutFitsNoStock = omega arith
+refusal_small Refusal.CutAreaTooLarge = omega arith
+refusal_small Refusal.NoCandidate = omega arith
+
+-- a refusal's text where there is room for the longest
+pub refusal_whole : (r : Refusal) (held : List ℕ) (room : ℕ) → 11 ≤ room → held ≡ [] → with_bytes room held (refusal_text (refusal_number r)) ≡ refusal_text (refusal_number r)
+unfolding with_bytes
+refusal_whole r held room h e = rw e (take_all (room - 0) (refusal_text (refusal_number r)) (omega (arith, refusal_short (refusal_number r) (refusal_small r))))
