@@ -1,6 +1,6 @@
 // A subtree's nodes in the place of a guide's node.
 
-ghost use Rattle.std.specs.Prelude.{◌≡◌, ◌+◌, ◌≤◌, ◌<◌, [], length, take, option_to_list};
+ghost use Rattle.std.specs.Prelude.{◌≡◌, ◌+◌, ◌≤◌, ◌<◌, [], length, take};
 ghost use Rattle.lists.specs.Parts.{patch};
 ghost use Rattle.guide.specs.Nodes.{around, subtree_nodes};
 ghost use Rattle.guide.specs.Splices.{spliced, before_nodes, after_nodes};
@@ -18,7 +18,7 @@ fn extra_nodes(c: Option<CutOff>) -> usize
     }
 }
 
-// The cut goes before what it cuts, if there is one. Answers the number past it.
+// The cut goes before what it cuts, if there is one. Answers the number past it. The next function differs in the field alone: one for both would be handed the field by a closure.
 fn put_before(nodes: &mut [Node], at: usize, c: Option<CutOff>) -> usize
     requires { at + length (before_nodes c) ≤ length nodes.old }
     ensures nodes { nodes.new ≡ patch nodes.old at (before_nodes c) }

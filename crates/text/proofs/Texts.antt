@@ -1,5 +1,5 @@
 -- A file's text, from what the entry answers and leaves.
-use Prim.Native.Nat.{ℕ}
+use Prim.Native.Nat.{ℕ, ◌<◌}
 use native.Mathlib.Omega.{arith}
 use mathlib.Core.Path.{◌≡◌, sym, ap, ◌∙◌}
 use mathlib.Core.List.{List}
@@ -31,21 +31,24 @@ module _ {file w p : List ℕ} {n : ℕ} (h : Promise file (replicate least_work
   pub text_of_refusal : (n ≡ 0 → ⊥) → refusal_text n ≡ printed file
   text_of_refusal e = is_refusal e ∙ told
 
+pub refusal_number-within : (r : Refusal) → (0 < refusal_number r) × (refusal_number r < 18)
+refusal_number-within Refusal.TooSmallMemory = (omega arith, omega arith)
+refusal_number-within Refusal.NotWellFormed = (omega arith, omega arith)
+refusal_number-within Refusal.BadSettings = (omega arith, omega arith)
+refusal_number-within Refusal.LargeKerf = (omega arith, omega arith)
+refusal_number-within Refusal.BadCodes = (omega arith, omega arith)
+refusal_number-within Refusal.ZeroSide = (omega arith, omega arith)
+refusal_number-within Refusal.LargeSide = (omega arith, omega arith)
+refusal_number-within Refusal.UnlimitedStock = (omega arith, omega arith)
+refusal_number-within Refusal.RepeatedId = (omega arith, omega arith)
+refusal_number-within Refusal.TooManyStockInstances = (omega arith, omega arith)
+refusal_number-within Refusal.ZeroQuantity = (omega arith, omega arith)
+refusal_number-within Refusal.TooManyCutInstances = (omega arith, omega arith)
+refusal_number-within Refusal.NoStock = (omega arith, omega arith)
+refusal_number-within Refusal.NestedLayout = (omega arith, omega arith)
+refusal_number-within Refusal.CutFitsNoStock = (omega arith, omega arith)
+refusal_number-within Refusal.CutAreaTooLarge = (omega arith, omega arith)
+refusal_number-within Refusal.NoCandidate = (omega arith, omega arith)
+
 pub refusal_number-positive : (r : Refusal) → refusal_number r ≡ 0 → ⊥
-refusal_number-positive Refusal.TooSmallMemory e = omega arith
-refusal_number-positive Refusal.NotWellFormed e = omega arith
-refusal_number-positive Refusal.BadSettings e = omega arith
-refusal_number-positive Refusal.LargeKerf e = omega arith
-refusal_number-positive Refusal.BadCodes e = omega arith
-refusal_number-positive Refusal.ZeroSide e = omega arith
-refusal_number-positive Refusal.LargeSide e = omega arith
-refusal_number-positive Refusal.UnlimitedStock e = omega arith
-refusal_number-positive Refusal.RepeatedId e = omega arith
-refusal_number-positive Refusal.TooManyStockInstances e = omega arith
-refusal_number-positive Refusal.ZeroQuantity e = omega arith
-refusal_number-positive Refusal.TooManyCutInstances e = omega arith
-refusal_number-positive Refusal.NoStock e = omega arith
-refusal_number-positive Refusal.NestedLayout e = omega arith
-refusal_number-positive Refusal.CutFitsNoStock e = omega arith
-refusal_number-positive Refusal.CutAreaTooLarge e = omega arith
-refusal_number-positive Refusal.NoCandidate e = omega arith
+refusal_number-positive r e = omega (arith, (refusal_number-within r).0, e)

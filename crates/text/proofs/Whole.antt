@@ -39,6 +39,7 @@ use Rattle.text.specs.PlanText.{plan_text}
 use Rattle.project.specs.declared.Refusal.{Refusal}
 use Rattle.project.specs.Refusals.{refusal_number}
 use Rattle.text.specs.Text.{refusal_text, answer_text, planned, printed, most_text}
+use Rattle.text.proofs.Texts.{refusal_number-within}
 use Rattle.text.proofs.Longest.{two_digits_most, plan_most}
 
 -- ---- the text of a plan
@@ -110,26 +111,7 @@ pub whole : (file held : List ℕ) (room : ℕ) → ((i : ℕ) → get_or file i
 unfolding with_bytes
 whole file held room b h e = rw e (take_all (room - 0) (printed file) (omega (arith, longest file (all_bytes file b))))
 
-refusal_small : (r : Refusal) → refusal_number r < 100
-refusal_small Refusal.TooSmallMemory = omega arith
-refusal_small Refusal.NotWellFormed = omega arith
-refusal_small Refusal.BadSettings = omega arith
-refusal_small Refusal.LargeKerf = omega arith
-refusal_small Refusal.BadCodes = omega arith
-refusal_small Refusal.ZeroSide = omega arith
-refusal_small Refusal.LargeSide = omega arith
-refusal_small Refusal.UnlimitedStock = omega arith
-refusal_small Refusal.RepeatedId = omega arith
-refusal_small Refusal.TooManyStockInstances = omega arith
-refusal_small Refusal.ZeroQuantity = omega arith
-refusal_small Refusal.TooManyCutInstances = omega arith
-refusal_small Refusal.NoStock = omega arith
-refusal_small Refusal.NestedLayout = omega arith
-refusal_small Refusal.CutFitsNoStock = omega arith
-refusal_small Refusal.CutAreaTooLarge = omega arith
-refusal_small Refusal.NoCandidate = omega arith
-
 -- a refusal's text where there is room for the longest
 pub refusal_whole : (r : Refusal) (held : List ℕ) (room : ℕ) → 11 ≤ room → held ≡ [] → with_bytes room held (refusal_text (refusal_number r)) ≡ refusal_text (refusal_number r)
 unfolding with_bytes
-refusal_whole r held room h e = rw e (take_all (room - 0) (refusal_text (refusal_number r)) (omega (arith, refusal_short (refusal_number r) (refusal_small r))))
+refusal_whole r held room h e = rw e (take_all (room - 0) (refusal_text (refusal_number r)) (omega (arith, refusal_short (refusal_number r) (omega (arith, (refusal_number-within r).1)))))

@@ -16,7 +16,7 @@ use words::append::Buffer;
 // Room for the longest text of a plan, and for that of a refusal.
 const MOST_TEXT: usize = 45_371;
 
-const MOST_REFUSAL: usize = 16;
+const MOST_REFUSAL: usize = 11;
 
 fn put_refusal<const N: usize>(refusal: Refusal, text: &mut Buffer<N>)
     ensures { text.new ≡ with_bytes N text.old (refusal_text (refusal_number refusal)) }
